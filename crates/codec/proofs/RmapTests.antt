@@ -1,0 +1,58 @@
+-- The tests of one reverse-map record, from what holds of its numbers.
+-- Assumes nothing.
+use Prim.Native.Nat.{ℕ, _+_, _/_, _%_, _^_, _≤_, _<_}
+use native.Mathlib.Nat.{div-div-eq-div-mul}
+use mathlib.Core.Path.{_≡_, refl, ap, sym, _∙_}
+use mathlib.Core.Bool.{true, false, not}
+use lib.Dec.{leb, ltb, eqb}
+use borrow.Author.Tests.{lt-ltb, le-leb, lt-leb, eq-eqb, ne-eqb}
+use Rattle.codec.specs.declared.rmap.Rmap.{Rmap}
+use Rattle.codec.specs.Rmaps.{end, fileOffset, flags, reserved, mapping, exempt, keyOffset, before, good, follows}
+
+module _ (r s : Rmap) where
+  pub before-start : (r .startblock ≡ s .startblock → ⊥) → ltb (r .startblock) (s .startblock) ≡ before r s
+  unfolding before
+  before-start h = simp (ne-eqb _ _ h)
+
+  pub before-owner : r .startblock ≡ s .startblock → (r .owner ≡ s .owner → ⊥) → ltb (r .owner) (s .owner) ≡ before r s
+  unfolding before
+  before-owner a h = simp (eq-eqb _ _ a, ne-eqb _ _ h)
+
+  pub before-offset : r .startblock ≡ s .startblock → r .owner ≡ s .owner → (a b : ℕ) → a ≡ keyOffset (r .offset) → b ≡ keyOffset (s .offset) → ltb a b ≡ before r s
+  unfolding before
+  before-offset a b c d e f = simp (eq-eqb _ _ a, eq-eqb _ _ b, e, f)
+
+  pub follows-not : before r s ≡ true → follows s r ≡ false
+  unfolding follows
+  follows-not h = ap not h
+
+  pub follows-true : before r s ≡ false → follows s r ≡ true
+  unfolding follows
+  follows-true h = ap not h
+
+module _ (r : Rmap) where
+  pub exempt-reserved : 2 ^ 63 ≤ r .owner → true ≡ exempt r
+  unfolding exempt reserved
+  exempt-reserved h = simp (le-leb _ _ h)
+
+  pub exempt-plain : r .owner < 2 ^ 63 → eqb (r .offset / 2 ^ 62 % 2) 1 ≡ exempt r
+  unfolding exempt reserved mapping
+  exempt-plain h = simp (lt-leb _ _ h) (ap (λ (n : ℕ). eqb (n % 2) 1) (sym (div-div-eq-div-mul (r .offset) (2 ^ 54) (2 ^ 8))))
+
+  pub good-zero : r .blockcount ≡ 0 → false ≡ good r
+  unfolding good
+  good-zero h = rw h refl
+
+  module _ (a : 0 < r .blockcount) where
+    pub good-long : 2 ^ 31 < end r → false ≡ good r
+    unfolding good
+    good-long h = simp (lt-ltb _ _ a, lt-leb _ _ h)
+
+    module _ (b : end r ≤ 2 ^ 31) where
+      pub good-exempt : exempt r ≡ true → true ≡ good r
+      unfolding good
+      good-exempt h = simp (lt-ltb _ _ a, le-leb _ _ b, h)
+
+      pub good-plain : exempt r ≡ false → leb (fileOffset r + r .blockcount) (2 ^ 54) ≡ good r
+      unfolding good
+      good-plain h = simp (lt-ltb _ _ a, le-leb _ _ b, h)

@@ -1,0 +1,22 @@
+-- `codec::crc::crc32c` meets its contract.
+-- Assumes nothing.
+use mathlib.Core.Path.{ap}
+use Prim.Native.Nat.{ℕ}
+use lib.Bits.{bitXor}
+use Rattle.codec.specs.Crc.{crc32cOf}
+use borrow.Author.Needs.{needs}
+use Rattle.codec.proofs.crc.crc32c.Statement.{statement}
+use Rattle.codec.proofs.crc.crc32c.Tie as tie
+
+table-requires : tie.Need-table-requires
+table-requires c κs = search needs
+
+crc-bytes-requires : tie.Need-crc-bytes-requires
+crc-bytes-requires c κs = search needs
+
+returns : tie.Need-returns
+unfolding crc32cOf
+returns c = ap (λ (x : ℕ). bitXor x 0xFFFF_FFFF) (c .crc-bytes .ensures)
+
+pub crc32c-spec : {M : Type 1} → statement M
+crc32c-spec = tie.close (tie.spec table-requires crc-bytes-requires returns)

@@ -1,0 +1,53 @@
+-- `codec::rmap::good` meets its contract.
+-- Assumes nothing.
+use native.Mathlib.Omega.{arith}
+use mathlib.Core.Path.{sym, _∙_}
+use Rattle.codec.proofs.RmapTests.{good-zero, good-long, good-exempt, good-plain}
+use borrow.Author.Needs.{needs}
+use Rattle.codec.proofs.rmap.good.Statement.{statement}
+use Rattle.codec.proofs.rmap.good.Tie as tie
+
+returns : tie.Need-returns
+returns c = good-zero _ (c .if1 .taken)
+
+cast-if2 : tie.Need-cast-if2
+cast-if2 c = search needs
+
+cast-if2-2 : tie.Need-cast-if2-2
+cast-if2-2 c = search needs
+
+add-if2 : tie.Need-add-if2
+add-if2 c = search needs
+
+returns-2 : tie.Need-returns-2
+returns-2 c = good-long _ (omega arith) (c .if2 .taken)
+
+exempt-requires : tie.Need-exempt-requires
+exempt-requires c κs = search needs
+
+returns-3 : tie.Need-returns-3
+returns-3 c = good-exempt _ (omega arith) (c .before .before .if2 .left) (sym (c .before .exempt .ensures) ∙ c .if3 .taken)
+
+cast-result : tie.Need-cast-result
+cast-result c = search needs
+
+add-result : tie.Need-add-result
+add-result c = search needs
+
+returns-4 : tie.Need-returns-4
+returns-4 c = good-plain _ (omega arith) (c .before .before .before .before .if2 .left) (sym (c .before .before .before .exempt .ensures) ∙ c .before .before .if3 .left)
+
+pub good-spec : {M : Type 1} → statement M
+good-spec =
+    tie.close
+    (tie.spec
+    returns
+    cast-if2
+    cast-if2-2
+    add-if2
+    returns-2
+    exempt-requires
+    returns-3
+    cast-result
+    add-result
+    returns-4)

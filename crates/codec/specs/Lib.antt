@@ -1,0 +1,9 @@
+pub mod Bytes
+pub mod Crc
+pub mod Polynomial
+pub mod Question
+pub mod Records
+pub mod Accepted
+pub mod Rmaps
+pub mod Refcounts
+pub mod ListRefusal

@@ -1,0 +1,122 @@
+// RFC 3720's vectors of CRC32C (B.4), a block's check put into its own field and left out again, and lists that questions 19 to 21 accept and
+// refuse.
+use codec::check::ListChecked;
+use codec::check::ListRefusal;
+use codec::crc;
+use codec::endian;
+
+fn line(name: &[u8], check: u32) {
+    io::write_all(1, name);
+    io::write_all(1, b" ");
+    io::print_hex(1, check as u64, 8);
+    io::write_all(1, b"\n");
+}
+
+fn number(r: ListRefusal) -> u64 {
+    match r {
+        ListRefusal::Length => 19,
+        ListRefusal::RmapOrder => 20,
+        ListRefusal::RefcountOrder => 21,
+    }
+}
+
+fn answer(name: &[u8], r: ListChecked) {
+    io::write_all(1, name);
+    match r {
+        ListChecked::Accepted(n) => {
+            io::write_all(1, b" accepted ");
+            io::print_decimal(1, n as u64);
+        }
+        ListChecked::Refused(e) => {
+            io::write_all(1, b" refused ");
+            io::print_decimal(1, number(e));
+        }
+    }
+    io::write_all(1, b"\n");
+}
+
+fn rmaps(name: &[u8], list: &[u8]) {
+    answer(name, codec::rmap::check_order(list));
+}
+
+fn refcounts(name: &[u8], list: &[u8]) {
+    answer(name, codec::refcount::check_order(list));
+}
+
+fn checks() {
+    line(b"zeros", crc::crc32c(&[0u8; 32]));
+    line(b"ones", crc::crc32c(&[0xFFu8; 32]));
+    line(
+        b"rising",
+        crc::crc32c(
+            b"\x00\x01\x02\x03\x04\x05\x06\x07\x08\x09\x0A\x0B\x0C\x0D\x0E\x0F\x10\x11\x12\x13\x14\x15\x16\x17\x18\x19\x1A\x1B\x1C\x1D\x1E\x1F",
+        ),
+    );
+    line(
+        b"falling",
+        crc::crc32c(
+            b"\x1F\x1E\x1D\x1C\x1B\x1A\x19\x18\x17\x16\x15\x14\x13\x12\x11\x10\x0F\x0E\x0D\x0C\x0B\x0A\x09\x08\x07\x06\x05\x04\x03\x02\x01\x00",
+        ),
+    );
+    // An iSCSI SCSI Read (10) Command PDU. Its bytes 4 to 7 are zeros.
+    let mut pdu =
+        *b"\x01\xC0\0\0\0\0\0\0\0\0\0\0\0\0\0\0\x14\0\0\0\0\0\x04\0\0\0\0\x14\0\0\0\x18\x28\0\0\0\0\0\0\0\x02\0\0\0\0\0\0\0";
+    let check = crc::crc32c(&pdu);
+    line(b"pdu", check);
+    endian::put_le32(&mut pdu, 4, check);
+    line(b"field", endian::be32(&pdu, 4));
+    line(b"read", endian::le32(&pdu, 4));
+    line(b"zeroed", crc::crc32c_with_zeroed_crc(&pdu, 4));
+}
+
+fn lists() {
+    rmaps(b"no record", b"");
+    rmaps(b"a byte", b"\0");
+    rmaps(
+        b"owner 7 before owner -3",
+        b"\0\0\0\x04\0\0\0\x04\0\0\0\0\0\0\0\x07\0\0\0\0\0\0\0\0\0\0\0\x04\0\0\0\x04\xFF\xFF\xFF\xFF\xFF\xFF\xFF\xFD\0\0\0\0\0\0\0\0",
+    );
+    rmaps(
+        b"owner -3 before owner 7",
+        b"\0\0\0\x04\0\0\0\x04\xFF\xFF\xFF\xFF\xFF\xFF\xFF\xFD\0\0\0\0\0\0\0\0\0\0\0\x04\0\0\0\x04\0\0\0\0\0\0\0\x07\0\0\0\0\0\0\0\0",
+    );
+    rmaps(
+        b"equal but for bit 61",
+        b"\0\0\0\x04\0\0\0\x04\0\0\0\0\0\0\0\x07\x20\0\0\0\0\0\0\0\0\0\0\x04\0\0\0\x04\0\0\0\0\0\0\0\x07\0\0\0\0\0\0\0\0",
+    );
+    rmaps(
+        b"count 0",
+        b"\0\0\0\x04\0\0\0\0\0\0\0\0\0\0\0\x07\0\0\0\0\0\0\0\0",
+    );
+    rmaps(
+        b"end 2147483649",
+        b"\x7F\xFF\xFF\xFF\0\0\0\x02\0\0\0\0\0\0\0\x07\0\0\0\0\0\0\0\0",
+    );
+    rmaps(
+        b"file offset and count 2^54 + 1",
+        b"\0\0\0\x04\0\0\0\x02\0\0\0\0\0\0\0\x07\0\x3F\xFF\xFF\xFF\xFF\xFF\xFF",
+    );
+    rmaps(
+        b"the same with bit 62",
+        b"\0\0\0\x04\0\0\0\x02\0\0\0\0\0\0\0\x07\x40\x3F\xFF\xFF\xFF\xFF\xFF\xFF",
+    );
+    refcounts(b"eleven bytes", b"\0\0\0\0\0\0\0\x01\0\0\0");
+    refcounts(b"one owner", b"\0\0\0\0\0\0\0\x01\0\0\0\x01");
+    refcounts(
+        b"shared, then staging of the same block",
+        b"\0\0\0\0\0\0\0\x01\0\0\0\x02\x80\0\0\0\0\0\0\x01\0\0\0\x01",
+    );
+    refcounts(
+        b"staging, then shared",
+        b"\x80\0\0\0\0\0\0\x01\0\0\0\x01\0\0\0\x08\0\0\0\x01\0\0\0\x02",
+    );
+    refcounts(
+        b"one block in two records",
+        b"\0\0\0\0\0\0\0\x02\0\0\0\x02\0\0\0\x01\0\0\0\x01\0\0\0\x02",
+    );
+}
+
+fn main() {
+    checks();
+    lists();
+}
