@@ -1,0 +1,5 @@
+pub mod Laws
+pub mod Heads
+pub mod Meaning
+pub mod Stamped
+pub mod Accepted

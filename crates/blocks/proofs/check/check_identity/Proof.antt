@@ -1,0 +1,104 @@
+-- `blocks::check::check_identity` meets its contract: 5 to 8, each where its test was passed or failed.
+-- Assumes nothing.
+use borrow.Author.Needs.{needs}
+use mathlib.Core.Path.{_≡_, ap, sym, _∙_}
+use mathlib.Core.Bool.{true}
+use lib.Dec.{eqb}
+use borrow.Author.Tests.{eq-eqb, ne-eqb, not-true, not-false}
+use Rattle.codec.specs.Bytes.{bytesAt, beOf, leOf}
+use Rattle.blocks.specs.Geometry.{linearOf, addressOf}
+use Rattle.blocks.specs.Check.{same, blockCrc}
+use Rattle.blocks.proofs.Laws.{address-fits}
+use Rattle.blocks.proofs.check.check_identity.Statement.{statement}
+use Rattle.blocks.proofs.check.check_identity.Tie as tie
+
+-- questions 5 to 8, each where its test was passed
+crc-holds : (c : tie.Else1) → let b = c .before .before .before .before .args .b .now in eqb (leOf (bytesAt b 52 4)) (blockCrc b) ≡ true
+crc-holds c = eq-eqb _ _ (sym (c .before .le32 .ensures) ∙ c .if1 .left ∙ c .before .before .crc32c-with-zeroed-crc .ensures)
+
+uuid-holds : (c : tie.Else2) → let a = c .before .before .before .before .before .before .before .args in same (bytesAt (a .b .now) 32 16) (a .g .«meta_uuid») ≡ true
+uuid-holds c = sym (c .before .is-uuid .ensures) ∙ not-false _ (c .if2 .left)
+
+owner-holds : (c : tie.Else3) → let a = c .before .before .before .before .before .before .before .before .before .args in eqb (beOf (bytesAt (a .b .now) 48 4)) (a .g .agno) ≡ true
+owner-holds c = eq-eqb _ _ (sym (c .before .be32 .ensures) ∙ c .if3 .left)
+
+address-is : (c : tie.After-address) → let a = c .before .before .before .before .before .before .before .before .before .before .before .args in addressOf (a .g) (linearOf (a .g) (a .block .0)) ≡ c .address .result .0
+address-is c = ap (addressOf (c .before .before .before .before .before .before .before .before .before .before .before .args .g)) (sym (c .before .linear .ensures)) ∙ sym (c .address .ensures)
+
+address-holds : (c : tie.Else4) → let a = c .before .before .before .before .before .before .before .before .before .before .before .before .before .args in eqb (beOf (bytesAt (a .b .now) 16 8)) (addressOf (a .g) (linearOf (a .g) (a .block .0))) ≡ true
+address-holds c = eq-eqb _ _ (sym (c .before .be64 .ensures) ∙ c .if4 .left ∙ sym (address-is (c .before .before)))
+
+crc32c-with-zeroed-crc-requires : tie.Need-crc32c-with-zeroed-crc-requires
+crc32c-with-zeroed-crc-requires c κs = search needs
+
+le32-requires : tie.Need-le32-requires
+le32-requires c κs = search needs
+
+cast-t14 : tie.Need-cast-t14
+cast-t14 c = search needs
+
+cast-t15 : tie.Need-cast-t15
+cast-t15 c = search needs
+
+returns : tie.Need-returns
+returns c = rw (← c .before .le32 .ensures, ← c .before .before .crc32c-with-zeroed-crc .ensures, ne-eqb _ _ (c .if1 .taken))
+
+is-uuid-requires : tie.Need-is-uuid-requires
+is-uuid-requires c κs = search needs
+
+returns-2 : tie.Need-returns-2
+returns-2 c = rw (crc-holds (c .before .before .before), ← c .before .is-uuid .ensures, not-true (c .before .is-uuid .result) (c .if2 .taken))
+
+be32-requires : tie.Need-be32-requires
+be32-requires c κs = search needs
+
+cast-t20 : tie.Need-cast-t20
+cast-t20 c = search needs
+
+cast-t21 : tie.Need-cast-t21
+cast-t21 c = search needs
+
+returns-3 : tie.Need-returns-3
+returns-3 c = rw (crc-holds (c .before .before .before .before .before), uuid-holds (c .before .before), ← c .before .be32 .ensures, ne-eqb _ _ (c .if3 .taken))
+
+linear-requires : tie.Need-linear-requires
+linear-requires c κs = search needs
+
+address-requires : tie.Need-address-requires
+address-requires c κs =
+    let a = c .before .before .before .before .before .before .before .before .before .before .args in
+    rw (c .linear .ensures) (address-fits (a .g) (c .before .before .before .before .before .before .before .before .before .before .pre .0) (a .block .0) (search needs))
+
+be64-requires : tie.Need-be64-requires
+be64-requires c κs = search needs
+
+returns-4 : tie.Need-returns-4
+returns-4 c = rw (crc-holds (c .before .before .before .before .before .before .before .before .before), uuid-holds (c .before .before .before .before .before .before), owner-holds (c .before .before .before .before), ← c .before .be64 .ensures, address-is (c .before .before), ne-eqb _ _ (c .if4 .taken))
+
+check-contents-requires : tie.Need-check-contents-requires
+check-contents-requires c κs = search needs
+
+returns-5 : tie.Need-returns-5
+returns-5 c = rw (crc-holds (c .before .before .before .before .before .before .before .before .before .before), uuid-holds (c .before .before .before .before .before .before .before), owner-holds (c .before .before .before .before .before), address-holds (c .before)) (c .check-contents .ensures)
+
+pub check-identity-spec : {M : Type 1} → statement M
+check-identity-spec =
+    tie.close
+    (tie.spec
+    crc32c-with-zeroed-crc-requires
+    le32-requires
+    cast-t14
+    cast-t15
+    returns
+    is-uuid-requires
+    returns-2
+    be32-requires
+    cast-t20
+    cast-t21
+    returns-3
+    linear-requires
+    address-requires
+    be64-requires
+    returns-4
+    check-contents-requires
+    returns-5)

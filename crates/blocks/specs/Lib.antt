@@ -1,0 +1,5 @@
+pub mod Geometry
+pub mod Tree
+pub mod Refusal
+pub mod Check
+pub mod Stamp

@@ -1,0 +1,35 @@
+-- The header that a fresh block is given.
+-- Assumes nothing.
+use Prim.Native.Nat.{ℕ}
+use mathlib.Core.Bool.{cond}
+use mathlib.Core.List.{List, _++_}
+use lib.Dec.{eqb}
+use Rattle.codec.specs.Bytes.{withBytes, beBytes, leBytes}
+use Rattle.blocks.specs.declared.geometry.Geometry.{Geometry}
+use Rattle.blocks.specs.declared.kind.TreeKind.{TreeKind}
+use Rattle.blocks.specs.Geometry.{linearOf, addressOf}
+use Rattle.blocks.specs.Tree.{magicOf}
+use Rattle.blocks.specs.Check.{blockCrc}
+
+-- bytes 8 to 15: the left and the right sibling
+abbrev pub siblings : ℕ → ℕ → List ℕ
+siblings left right = beBytes 4 left ++ beBytes 4 right
+
+-- bytes 0 to 15: magic, level, records and siblings
+abbrev pub plainHead : TreeKind → ℕ → ℕ → ℕ → ℕ → ℕ → List ℕ
+plainHead kind version level numrecs left right =
+    beBytes 4 (magicOf kind version) ++ beBytes 2 level ++ beBytes 2 numrecs ++ siblings left right
+
+-- bytes 16 to 51: address, sequence number, UUID and group
+abbrev pub identityHead : Geometry → ℕ → List ℕ
+identityHead g block = beBytes 8 (addressOf g (linearOf g block)) ++ beBytes 8 0 ++ g .«meta_uuid» ++ beBytes 4 (g .agno)
+
+-- the check, at 52
+abbrev pub withCrc : List ℕ → List ℕ
+withCrc b = withBytes b 52 (leBytes 4 (blockCrc b))
+
+unfoldable pub stamped : Geometry → TreeKind → ℕ → ℕ → ℕ → ℕ → ℕ → List ℕ → List ℕ
+stamped g kind block level numrecs left right b =
+    cond (eqb (g .version) 5)
+    (withCrc (withBytes b 0 (plainHead kind (g .version) level numrecs left right ++ identityHead g block)))
+    (withBytes b 0 (plainHead kind (g .version) level numrecs left right))

@@ -1,0 +1,40 @@
+-- The lengths by which one kind of tree, and one version, differs from another. Every promise goes by these.
+-- Assumes nothing.
+use Prim.Native.Nat.{ℕ, _+_, _-_, _/_}
+use mathlib.Core.Bool.{Bool, cond}
+use lib.Dec.{eqb}
+use Rattle.blocks.specs.declared.kind.TreeKind.{TreeKind}
+use Rattle.blocks.specs.declared.kind.TreeKind.the-variants.{Rmap, Refcount}
+
+unfoldable pub headerLen : ℕ → ℕ
+headerLen version = cond (eqb version 5) 56 16
+
+-- has a version a tree of the kind
+abbrev pub hasTree : TreeKind → ℕ → Bool
+hasTree Rmap version = eqb version 5
+hasTree Refcount version = eqb version 5
+
+abbrev pub magicOf : TreeKind → ℕ → ℕ
+magicOf Rmap version = 0x524D4233
+magicOf Refcount version = 0x52334643
+
+abbrev pub recordLen : TreeKind → ℕ
+recordLen Rmap = 24
+recordLen Refcount = 12
+
+-- the keys of one entry of a node: low and high in the reverse map, one in the counts
+abbrev pub keysLen : TreeKind → ℕ
+keysLen Rmap = 20 + 20
+keysLen Refcount = 4
+
+-- an entry of a node: its keys and a pointer
+abbrev pub entryLen : TreeKind → ℕ
+entryLen kind = keysLen kind + 4
+
+-- what one place of a block at a level takes: a record in a leaf, an entry in a node
+abbrev pub placeLen : TreeKind → ℕ → ℕ
+placeLen kind level = cond (eqb level 0) (recordLen kind) (entryLen kind)
+
+-- how many records or entries a block of `len` bytes holds
+abbrev pub capacity : TreeKind → ℕ → ℕ → ℕ → ℕ
+capacity kind version level len = (len - headerLen version) / placeLen kind level

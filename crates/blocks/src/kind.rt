@@ -1,0 +1,90 @@
+// The kinds of tree, by their lengths.
+ghost use mathlib.Core.Path.{_≡_};
+ghost use Rattle.blocks.specs.Tree.{headerLen, hasTree, magicOf, recordLen, keysLen, entryLen, placeLen, capacity};
+
+pub enum TreeKind {
+    Rmap,
+    Refcount,
+}
+
+impl TreeKind {
+    // Question 3: has a version such a tree?
+    pub fn is_in(self, version: u16) -> bool
+        ensures { λ r. ⌜ r ≡ hasTree self version ⌝ }
+    {
+        match self {
+            TreeKind::Rmap => version == 5,
+            TreeKind::Refcount => version == 5,
+        }
+    }
+
+    // The magic number of its blocks in a version that has such a tree. Both kinds here have one only.
+    pub fn magic(self, version: u16) -> u32
+        ensures { λ r. ⌜ r ≡ magicOf self version ⌝ }
+    {
+        match self {
+            TreeKind::Rmap => 0x524D4233,
+            TreeKind::Refcount => 0x52334643,
+        }
+    }
+
+    // The length of a record.
+    pub fn record_len(self) -> usize
+        ensures { λ r. ⌜ r ≡ recordLen self ⌝ }
+    {
+        match self {
+            TreeKind::Rmap => 24,
+            TreeKind::Refcount => 12,
+        }
+    }
+
+    // The length of the keys of one entry of a node.
+    pub fn keys_len(self) -> usize
+        ensures { λ r. ⌜ r ≡ keysLen self ⌝ }
+    {
+        match self {
+            TreeKind::Rmap => 40,
+            TreeKind::Refcount => 4,
+        }
+    }
+
+    // The length of an entry of a node: its keys and a pointer.
+    pub fn entry_len(self) -> usize
+        ensures { λ r. ⌜ r ≡ entryLen self ⌝ }
+    {
+        match self {
+            TreeKind::Rmap => 44,
+            TreeKind::Refcount => 8,
+        }
+    }
+
+    // What one place of a block at a level takes: a record in a leaf, an entry in a node.
+    pub fn place_len(self, level: u16) -> usize
+        ensures { λ r. ⌜ r ≡ placeLen self level ⌝ }
+    {
+        if level == 0 {
+            self.record_len()
+        } else {
+            self.entry_len()
+        }
+    }
+}
+
+// The length of a block's header.
+pub fn header_len(version: u16) -> usize
+    ensures { λ r. ⌜ r ≡ headerLen version ⌝ }
+{
+    if version == 5 { 56 } else { 16 }
+}
+
+// How many records or entries a block of `len` bytes holds at a level.
+pub fn block_capacity(kind: TreeKind, version: u16, level: u16, len: usize) -> usize
+    ensures { λ r. ⌜ r ≡ capacity kind version level len ⌝ }
+{
+    let header = header_len(version);
+    let place = kind.place_len(level);
+    if len < header {
+        return 0;
+    }
+    (len - header) / place
+}

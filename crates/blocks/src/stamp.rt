@@ -1,0 +1,85 @@
+// The header of a fresh block.
+ghost use mathlib.Core.Path.{_≡_};
+ghost use mathlib.Core.Bool.{true};
+ghost use Prim.Native.Nat.{_≤_};
+ghost use lib.ListN.{length};
+ghost use Rattle.codec.specs.Bytes.{withBytes};
+ghost use Rattle.blocks.specs.Geometry.{geometryOk};
+ghost use Rattle.blocks.specs.Tree.{headerLen};
+ghost use Rattle.blocks.specs.Stamp.{siblings, plainHead, identityHead, stamped};
+use crate::geometry::AgBlock;
+use crate::geometry::Geometry;
+use crate::kind::TreeKind;
+use crate::uuid::put_uuid;
+use codec::crc::crc32c_with_zeroed_crc;
+use codec::endian::put_be16;
+use codec::endian::put_be32;
+use codec::endian::put_be64;
+use codec::endian::put_le32;
+
+// Bytes 8 to 15 of a fresh block.
+fn stamp_siblings(left: AgBlock, right: AgBlock, b: &mut [u8])
+    requires { ⌜ 16 ≤ length (now b) ⌝ }
+    ensures { λ _. ⌜ now (b .exit) ≡ withBytes (now (b .entry)) 8 (siblings (left .0) (right .0)) ⌝ }
+{
+    put_be32(b, 8, left.0);
+    put_be32(b, 12, right.0);
+}
+
+// Bytes 0 to 15 of a fresh block.
+fn stamp_plain(
+    kind: TreeKind,
+    version: u16,
+    level: u16,
+    numrecs: u16,
+    left: AgBlock,
+    right: AgBlock,
+    b: &mut [u8],
+)
+    requires { ⌜ 16 ≤ length (now b) ⌝ }
+    ensures { λ _. ⌜ now (b .exit) ≡ withBytes (now (b .entry)) 0 (plainHead kind version level numrecs (left .0) (right .0)) ⌝ }
+{
+    let magic = kind.magic(version);
+    put_be32(b, 0, magic);
+    put_be16(b, 4, level);
+    put_be16(b, 6, numrecs);
+    stamp_siblings(left, right, b);
+}
+
+// Bytes 16 to 51 of a fresh block. Its sequence number is 0.
+fn stamp_identity(g: Geometry, block: AgBlock, b: &mut [u8])
+    requires { ⌜ (geometryOk g ≡ true) × (52 ≤ length (now b)) ⌝ }
+    ensures { λ _. ⌜ now (b .exit) ≡ withBytes (now (b .entry)) 16 (identityHead g (block .0)) ⌝ }
+{
+    let address = block.linear(g).address(g).0;
+    let uuid = g.meta_uuid;
+    let agno = g.agno;
+    put_be64(b, 16, address);
+    put_be64(b, 24, 0);
+    put_uuid(b, 32, uuid);
+    put_be32(b, 48, agno);
+}
+
+// The header of a fresh block, with its check: on version 5 the whole 56 bytes, on version 4 the first 16. The check is over all of `b`, so
+// what stands after the header has to be there already.
+pub fn stamp(
+    g: Geometry,
+    kind: TreeKind,
+    block: AgBlock,
+    level: u16,
+    numrecs: u16,
+    left: AgBlock,
+    right: AgBlock,
+    b: &mut [u8],
+)
+    requires { ⌜ (geometryOk g ≡ true) × (headerLen (g .version) ≤ length (now b)) ⌝ }
+    ensures { λ _. ⌜ now (b .exit) ≡ stamped g kind (block .0) level numrecs (left .0) (right .0) (now (b .entry)) ⌝ }
+{
+    let version = g.version;
+    stamp_plain(kind, version, level, numrecs, left, right, b);
+    if version == 5 {
+        stamp_identity(g, block, b);
+        let crc = crc32c_with_zeroed_crc(b, 52);
+        put_le32(b, 52, crc);
+    }
+}

@@ -1,0 +1,306 @@
+// Blocks that pass the check, and blocks refused by each of questions 1 to 10: each is stamped, then damaged. A line has the answer's number
+// and, where there are two numbers, what was expected and what was found. `stdout` was worked out apart from this code.
+use blocks::check::BlockRefusal;
+use blocks::check::Checked;
+use blocks::check::Field;
+use blocks::check::Header;
+use blocks::check::check_block;
+use blocks::geometry::AgBlock;
+use blocks::geometry::Geometry;
+use blocks::geometry::NULL_AGBLOCK;
+use blocks::kind::TreeKind;
+use blocks::kind::header_len;
+use blocks::stamp::stamp;
+use codec::crc::crc32c_with_zeroed_crc;
+use codec::endian::be64;
+use codec::endian::put_le32;
+
+fn number(name: &[u8], n: u64) {
+    io::write_all(1, name);
+    io::print_decimal(1, n);
+}
+
+fn show_good(h: Header) {
+    number(b" good level ", h.level as u64);
+    number(b" records ", h.numrecs as u64);
+    number(b" body ", h.body as u64);
+    number(b" capacity ", h.maxrecs as u64);
+}
+
+fn show_two(n: u64, expected: u64, found: u64) {
+    number(b" refused ", n);
+    number(b" expected ", expected);
+    number(b" found ", found);
+}
+
+fn show_field(f: Field) {
+    match f {
+        Field::Magic { expected, found } => show_two(4, expected, found),
+        Field::Crc { expected, found } => show_two(5, expected, found),
+        Field::Owner { expected, found } => show_two(7, expected, found),
+        Field::Address { expected, found } => show_two(8, expected, found),
+        Field::Level { expected, found } => show_two(9, expected, found),
+        Field::Records { expected, found } => show_two(10, expected, found),
+    }
+}
+
+fn show_refusal(r: BlockRefusal) {
+    match r {
+        BlockRefusal::BadGeometry => number(b" refused ", 1),
+        BlockRefusal::Short => number(b" refused ", 2),
+        BlockRefusal::NoTree => number(b" refused ", 3),
+        BlockRefusal::Uuid => number(b" refused ", 6),
+        BlockRefusal::BadField(f) => show_field(f),
+    }
+}
+
+fn show(name: &[u8], answer: Checked) {
+    io::write_all(1, name);
+    match answer {
+        Checked::Good(h) => show_good(h),
+        Checked::Refused(r) => show_refusal(r),
+    }
+    io::write_all(1, b"\n");
+}
+
+// The group 3 of a volume with blocks of 512 bytes.
+fn geometry(version: u16) -> Geometry {
+    Geometry {
+        version: version,
+        blocksize: 512,
+        agblocks: 1000,
+        agno: 3,
+        meta_uuid: [
+            16u8,
+            17,
+            18,
+            19,
+            20,
+            21,
+            22,
+            23,
+            24,
+            25,
+            26,
+            27,
+            28,
+            29,
+            30,
+            31,
+        ],
+    }
+}
+
+// Another geometry, with a buffer of no bytes: 1, or 2 where the geometry is good.
+fn show_geometry(name: &[u8], version: u16, blocksize: u32, agno: u32, agblocks: u32) {
+    let g = Geometry {
+        version: version,
+        blocksize: blocksize,
+        agblocks: agblocks,
+        agno: agno,
+        meta_uuid: [0u8; 16],
+    };
+    let b = [0u8; 1];
+    show(name, check_block(g, TreeKind::Rmap, AgBlock(0), 0, &b[..0]));
+}
+
+// A fresh block between two siblings, where the geometry is good and the header fits.
+fn between(
+    g: Geometry,
+    kind: TreeKind,
+    block: u32,
+    level: u16,
+    numrecs: u16,
+    left: u32,
+    right: u32,
+    b: &mut [u8],
+) {
+    if !g.is_ok() {
+        return;
+    }
+    let version = g.version;
+    let header = header_len(version);
+    if b.len() < header {
+        return;
+    }
+    stamp(
+        g,
+        kind,
+        AgBlock(block),
+        level,
+        numrecs,
+        AgBlock(left),
+        AgBlock(right),
+        b,
+    );
+}
+
+// A fresh block with no siblings.
+fn fresh(g: Geometry, kind: TreeKind, block: u32, level: u16, numrecs: u16, b: &mut [u8]) {
+    between(
+        g,
+        kind,
+        block,
+        level,
+        numrecs,
+        NULL_AGBLOCK,
+        NULL_AGBLOCK,
+        b,
+    );
+}
+
+// The check put in again, where asked.
+fn seal(b: &mut [u8], again: bool) {
+    if !again {
+        return;
+    }
+    if b.len() < 56 {
+        return;
+    }
+    let crc = crc32c_with_zeroed_crc(b, 52);
+    put_le32(b, 52, crc);
+}
+
+fn put(b: &mut [u8], at: usize, value: u8) {
+    if at < b.len() {
+        b[at] = value;
+    }
+}
+
+// A block of `kind`, number 7 of its group, stamped with a level and a number of records, and checked as it is.
+fn show_fresh(name: &[u8], version: u16, kind: TreeKind, level: u16, numrecs: u16) {
+    let g = geometry(version);
+    let mut b = [0u8; 512];
+    fresh(g, kind, 7, level, numrecs, &mut b);
+    show(name, check_block(g, kind, AgBlock(7), level, &b));
+}
+
+// A node of the reverse map, number 7 of its group, with 3 entries, damaged at one byte, its check put in again or not.
+fn show_damaged(name: &[u8], at: usize, value: u8, again: bool) {
+    let g = geometry(5);
+    let mut b = [0u8; 512];
+    fresh(g, TreeKind::Rmap, 7, 1, 3, &mut b);
+    put(&mut b, at, value);
+    seal(&mut b, again);
+    show(name, check_block(g, TreeKind::Rmap, AgBlock(7), 1, &b));
+}
+
+// The same block, undamaged, taken for another one.
+fn show_as(name: &[u8], kind: TreeKind, block: u32, level: u16) {
+    let g = geometry(5);
+    let mut b = [0u8; 512];
+    fresh(g, TreeKind::Rmap, 7, 1, 3, &mut b);
+    show(name, check_block(g, kind, AgBlock(block), level, &b));
+}
+
+// A leaf of the counts with no records, of all the bytes of `b`.
+fn show_small(name: &[u8], version: u16, b: &mut [u8]) {
+    let g = geometry(version);
+    fresh(g, TreeKind::Refcount, 7, 0, 0, b);
+    show(name, check_block(g, TreeKind::Refcount, AgBlock(7), 0, b));
+}
+
+// The header of a fresh block with siblings, eight bytes at a time.
+fn show_header(name: &[u8], version: u16) {
+    let g = geometry(version);
+    let mut b = [0u8; 512];
+    between(
+        g,
+        TreeKind::Refcount,
+        0x01020304,
+        0x0506,
+        0x0708,
+        0x090A0B0C,
+        0x0D0E0F10,
+        &mut b,
+    );
+    io::write_all(1, name);
+    io::write_all(1, b"\n");
+    words(&b);
+}
+
+fn words(b: &[u8]) {
+    if b.len() < 56 {
+        return;
+    }
+    word(be64(b, 0));
+    word(be64(b, 8));
+    word(be64(b, 16));
+    word(be64(b, 24));
+    word(be64(b, 32));
+    word(be64(b, 40));
+    word(be64(b, 48));
+}
+
+fn word(n: u64) {
+    io::print_hex(1, n, 16);
+    io::write_all(1, b"\n");
+}
+
+fn geometries() {
+    show_geometry(b"version 3", 3, 4096, 0, 0);
+    show_geometry(b"version 4", 4, 4096, 0, 0);
+    show_geometry(b"version 6", 6, 4096, 0, 0);
+    show_geometry(b"size 256", 5, 256, 0, 0);
+    show_geometry(b"size 512", 5, 512, 0, 0);
+    show_geometry(b"size 4095", 5, 4095, 0, 0);
+    show_geometry(b"size 65536", 5, 65536, 0, 0);
+    show_geometry(b"size 131072", 5, 131072, 0, 0);
+    show_geometry(b"last address", 5, 65536, 131070, 2147483648);
+    show_geometry(b"past the last", 5, 65536, 131070, 2147483649);
+    show_geometry(b"greatest", 5, 512, 4294967295, 4294967295);
+}
+
+fn accepted() {
+    show_fresh(b"map leaf", 5, TreeKind::Rmap, 0, 19);
+    show_fresh(b"map leaf too full", 5, TreeKind::Rmap, 0, 20);
+    show_fresh(b"map node", 5, TreeKind::Rmap, 1, 10);
+    show_fresh(b"map node too full", 5, TreeKind::Rmap, 1, 11);
+    show_fresh(b"counts leaf", 5, TreeKind::Refcount, 0, 38);
+    show_fresh(b"counts leaf too full", 5, TreeKind::Refcount, 0, 39);
+    show_fresh(b"counts node", 5, TreeKind::Refcount, 65535, 57);
+    show_fresh(b"counts node too full", 5, TreeKind::Refcount, 65535, 58);
+    show_fresh(b"map on version 4", 4, TreeKind::Rmap, 0, 1);
+    show_fresh(b"counts on version 4", 4, TreeKind::Refcount, 0, 1);
+}
+
+fn short() {
+    let mut b = [0u8; 55];
+    show_small(b"55 bytes", 5, &mut b);
+    let mut b = [0u8; 56];
+    show_small(b"56 bytes", 5, &mut b);
+    let mut b = [0u8; 60];
+    show_small(b"60 bytes", 5, &mut b);
+    let mut b = [0u8; 15];
+    show_small(b"15 bytes on version 4", 4, &mut b);
+    let mut b = [0u8; 16];
+    show_small(b"16 bytes on version 4", 4, &mut b);
+}
+
+fn damaged() {
+    show_damaged(b"magic", 0, 0x53, false);
+    show_damaged(b"magic, sealed", 3, 0x34, true);
+    show_damaged(b"body", 511, 1, false);
+    show_damaged(b"body, sealed", 511, 1, true);
+    show_damaged(b"stored check", 52, 0, false);
+    show_damaged(b"uuid", 32, 0, true);
+    show_damaged(b"uuid's last byte", 47, 0, true);
+    show_damaged(b"owner", 51, 4, true);
+    show_damaged(b"address", 16, 1, true);
+    show_damaged(b"level", 4, 1, true);
+    show_damaged(b"records", 7, 11, true);
+    show_damaged(b"level, not sealed", 4, 1, false);
+    show_as(b"as counts", TreeKind::Refcount, 7, 1);
+    show_as(b"as block 8", TreeKind::Rmap, 8, 1);
+    show_as(b"as block 8 and leaf", TreeKind::Rmap, 8, 0);
+    show_as(b"as leaf", TreeKind::Rmap, 7, 0);
+}
+
+fn main() {
+    geometries();
+    accepted();
+    short();
+    damaged();
+    show_header(b"header on version 5", 5);
+    show_header(b"header on version 4", 4);
+}
