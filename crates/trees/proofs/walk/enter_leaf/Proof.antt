@@ -1,0 +1,74 @@
+use borrow.Author.Needs.{needs}
+use native.Mathlib.Omega.{arith}
+use mathlib.Core.Path.{_≡_, refl, sym, ap, _∙_}
+use mathlib.Core.List.{List, []}
+use Prim.Native.Nat.{ℕ, _+_}
+use lib.ListN.{length}
+use denote.Ref.{now}
+use Rattle.codec.specs.Question.{Outcome, done}
+use Rattle.codec.proofs.Parts.{withBytes-one}
+use Rattle.trees.specs.declared.walk.Count.{Count}
+use Rattle.trees.proofs.WalkLaws.{step-full, step-no-room, step-next}
+use Rattle.trees.proofs.walk.enter_leaf.Statement.{statement}
+use Rattle.trees.proofs.walk.enter_leaf.Tie as tie
+
+returns : tie.Need-returns
+returns c =
+    let a = c .before .before .before .before .args in
+    (sym (step-full (a .places) (length (now (a .out))) (a .c) [] (now (a .bytes)) (c .if1 .taken)), (refl, refl))
+
+sub-if2 : tie.Need-sub-if2
+sub-if2 c = search needs
+
+returns-2 : tie.Need-returns-2
+returns-2 c =
+    let a = c .before .before .before .before .before .args in
+    (sym (step-no-room (a .places) (length (now (a .out))) (a .c) [] (now (a .bytes)) (c .if2 .taken)), (refl, refl))
+
+copy-requires : tie.Need-copy-requires
+copy-requires c κs = search needs
+
+mul-scratch : tie.Need-mul-scratch
+mul-scratch c = search needs
+
+slice-write-scratch : tie.Need-slice-write-scratch
+slice-write-scratch c = search needs
+
+add-t14 : tie.Need-add-t14
+add-t14 c = search needs
+
+add-t13 : tie.Need-add-t13
+add-t13 c = search needs
+
+same-length : tie.Need-same-length
+same-length c = search needs
+
+same-length-2 : tie.Need-same-length-2
+same-length-2 c = search needs
+
+returns-3 : tie.Need-returns-3
+returns-3 c =
+    let t = c .before .before .before .before in
+    let s = t .before .before .before .before .before in
+    let a = s .args in
+    let d : a .c .due ≡ a .c .due + 0 = omega arith in (
+      ap (λ (k : ℕ). done (record { due = k; visits = a .c .visits + 1; bytes = a .c .bytes + length (now (a .bytes)) })) d
+          ∙ sym (step-next (a .places) (length (now (a .out))) (a .c) [] (now (a .bytes)) (t .before .if1 .left) (t .if2 .left)),
+      (withBytes-one (now (a .scratch)) (a .c .visits) (a .block) (omega (arith, t .before .if1 .left, s .pre .0)), c .before .before .copy .ensures),
+    )
+
+pub enter-leaf-spec : {M : Type 1} → statement M
+enter-leaf-spec =
+    tie.close
+    (tie.spec
+    returns
+    sub-if2
+    returns-2
+    copy-requires
+    mul-scratch
+    slice-write-scratch
+    add-t14
+    add-t13
+    same-length
+    same-length-2
+    returns-3)

@@ -1,0 +1,143 @@
+use borrow.Author.Needs.{needs}
+use borrow.Author.Tests.{not-true, not-false, le-leb, lt-leb}
+use native.Mathlib.Omega.{arith}
+use native.Mathlib.Nat.{mul-le-mul, mul-assoc}
+use mathlib.Core.Path.{_≡_, refl, sym, ap, _∙_, subst}
+use mathlib.Core.Bool.{true, false}
+use Prim.Native.Nat.{ℕ, _+_, _*_, _≤_, _<_}
+use lib.ListN.{length}
+use denote.Ref.{now}
+use Rattle.codec.specs.Question.{Outcome, done, refused}
+use Rattle.blocks.specs.Geometry.{geometryOk}
+use Rattle.blocks.specs.Tree.{recordLen}
+use Rattle.blocks.specs.declared.check.BlockRefusal.the-variants.{BadGeometry}
+use Rattle.trees.specs.declared.walk.WalkRefusal.the-variants as why
+use Rattle.trees.specs.Walk.{Trace, perNode}
+use Rattle.trees.specs.Shapes.{shapeOf}
+use Rattle.trees.specs.WalkCall.{walkOf, lent}
+use Rattle.trees.proofs.LookLaws.{node-small}
+use Rattle.trees.proofs.CallLaws.{untouched}
+use Rattle.trees.proofs.walk.walk.Statement.{statement}
+use Rattle.trees.proofs.walk.walk.Tie as tie
+
+is-ok-requires : tie.Need-is-ok-requires
+is-ok-requires c κs = search needs
+
+-- question 1 holds
+ok : (c : tie.Else1) → geometryOk (c .before .before .before .before .before .before .before .args .g) ≡ true
+ok c = sym (c .before .is-ok .ensures) ∙ not-false (c .before .is-ok .result) (c .if1 .left)
+
+returns : tie.Need-returns
+returns c =
+    let a = c .before .before .before .before .before .before .before .args in
+    let e : geometryOk (a .g) ≡ false = sym (c .before .is-ok .ensures) ∙ not-true (c .before .is-ok .result) (c .if1 .taken) in
+    untouched (recordLen (a .kind)) (a .levels) _ (why.Block BadGeometry) (now (a .stack)) (now (a .scratch)) (now (a .blocks)) (now (a .records)) (rw e)
+
+returns-2 : tie.Need-returns-2
+returns-2 c =
+    let a = c .before .before .before .before .before .before .before .before .args in
+    untouched (recordLen (a .kind)) (a .levels) _ why.Levels (now (a .stack)) (now (a .scratch)) (now (a .blocks)) (now (a .records)) (rw (ok (c .before), lt-leb 1 (a .levels) (c .if2 .taken)))
+
+returns-3 : tie.Need-returns-3
+returns-3 c =
+    let a = c .before .before .before .before .before .before .before .before .before .args in
+    untouched (recordLen (a .kind)) (a .levels) _ why.Levels (now (a .stack)) (now (a .scratch)) (now (a .blocks)) (now (a .records))
+    (rw (ok (c .before .before), le-leb 1 (a .levels) (c .before .if2 .left), lt-leb (a .levels) 9 (c .if3 .taken)))
+
+cast-block-capacity : tie.Need-cast-block-capacity
+cast-block-capacity c = search needs
+
+block-capacity-requires : tie.Need-block-capacity-requires
+block-capacity-requires c κs = search needs
+
+-- what 12 asks of the stack fits 64 bits
+need : (c : tie.After-block-capacity) → c .before .before .before .before .before .before .before .before .before .before .before .args .levels * c .block-capacity .result ≤ 9 * 8192
+need c =
+    let a = c .before .before .before .before .before .before .before .before .before .before .before .args in
+    let t = c .before .before in
+    rw (c .block-capacity .ensures) (mul-le-mul (t .if3 .left) (node-small (a .g) (a .kind) (ok (t .before .before))))
+
+mul-if4 : tie.Need-mul-if4
+mul-if4 c = search needs
+
+mul-if4-2 : tie.Need-mul-if4-2
+mul-if4-2 c = omega (arith, need c, mul-assoc 2 (c .before .before .before .before .before .before .before .before .before .before .before .args .levels) (c .block-capacity .result))
+
+returns-4 : tie.Need-returns-4
+returns-4 c =
+    let k = c .before in
+    let a = k .before .before .before .before .before .before .before .before .before .before .before .args in
+    let t = k .before .before in
+    untouched (recordLen (a .kind)) (a .levels) _ why.Scratch (now (a .stack)) (now (a .scratch)) (now (a .blocks)) (now (a .records))
+    (rw (ok (t .before .before), le-leb 1 (a .levels) (t .before .if2 .left), le-leb (a .levels) 9 (t .if3 .left), ← k .block-capacity .ensures, lt-leb _ _ (c .if4 .taken)))
+
+returns-5 : tie.Need-returns-5
+returns-5 c =
+    let k = c .before .before in
+    let a = k .before .before .before .before .before .before .before .before .before .before .before .args in
+    let t = k .before .before in
+    untouched (recordLen (a .kind)) (a .levels) _ why.Scratch (now (a .stack)) (now (a .scratch)) (now (a .blocks)) (now (a .records))
+    (rw (ok (t .before .before), le-leb 1 (a .levels) (t .before .if2 .left), le-leb (a .levels) 9 (t .if3 .left), ← k .block-capacity .ensures, le-leb _ _ (c .before .if4 .left), lt-leb _ _ (c .if5 .taken)))
+
+limit-of-requires : tie.Need-limit-of-requires
+limit-of-requires c κs = search needs
+
+walk-tree-requires : tie.Need-walk-tree-requires
+walk-tree-requires c κs =
+    let l = c .before .before .before .before in
+    let k = l .before .before .before in
+    let t = k .before .before in
+    let a = k .before .before .before .before .before .before .before .before .before .before .before .args in (
+      record {
+        good = ok (t .before .before);
+        least = t .before .if2 .left;
+        most = t .if3 .left;
+        deep = subst (λ (n : ℕ). 2 * a .levels * n ≤ length (now (a .stack))) (k .block-capacity .ensures) (l .before .before .if4 .left);
+        noting = l .before .if5 .left;
+      },
+      l .limit-of .ensures .1,
+    )
+
+same-length : tie.Need-same-length
+same-length c = search needs
+
+same-length-2 : tie.Need-same-length-2
+same-length-2 c = search needs
+
+same-length-3 : tie.Need-same-length-3
+same-length-3 c = search needs
+
+same-length-4 : tie.Need-same-length-4
+same-length-4 c = search needs
+
+returns-6 : tie.Need-returns-6
+returns-6 c =
+    let w = c .before .before .before .before .before .before .before .before in
+    let l = w .before .before .before .before .before in
+    let k = l .before .before .before in
+    let t = k .before .before in
+    let a = k .before .before .before .before .before .before .before .before .before .before .before .args in
+    rw (ok (t .before .before), le-leb 1 (a .levels) (t .before .if2 .left), le-leb (a .levels) 9 (t .if3 .left), ← k .block-capacity .ensures, le-leb _ _ (l .before .before .if4 .left), le-leb _ _ (l .before .if5 .left), ← l .limit-of .ensures .0)
+    (w .walk-tree .ensures)
+
+pub walk-spec : {M : Type 1} → statement M
+walk-spec =
+    tie.close
+    (tie.spec
+    is-ok-requires
+    returns
+    returns-2
+    returns-3
+    cast-block-capacity
+    block-capacity-requires
+    mul-if4
+    mul-if4-2
+    returns-4
+    returns-5
+    limit-of-requires
+    walk-tree-requires
+    same-length
+    same-length-2
+    same-length-3
+    same-length-4
+    returns-6)

@@ -1,0 +1,15 @@
+pub mod Plan
+pub mod Walk
+pub mod BlockLayout
+pub mod Build
+pub mod Keys
+pub mod WalkState
+pub mod WalkCall
+pub mod WalkAnswer
+pub mod BuildCall
+pub mod BuildAnswer
+pub mod BuildNeeds
+pub mod RoundTrip
+pub mod Shapes
+pub mod PlanAnswer
+pub mod Forest

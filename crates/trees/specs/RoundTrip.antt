@@ -1,0 +1,41 @@
+-- What it is for a walk to return a built tree.
+-- Assumes nothing.
+use Prim.Native.Nat.{ℕ, _*_, _/_, _≤_}
+use mathlib.Core.Path.{_≡_}
+use mathlib.Core.List.{List}
+use lib.ListN.{length}
+use Rattle.codec.specs.Bytes.{withBytes}
+use Rattle.codec.specs.Question.{Outcome, done}
+use Rattle.blocks.specs.declared.geometry.Geometry.{Geometry}
+use Rattle.blocks.specs.declared.kind.TreeKind.{TreeKind}
+use Rattle.blocks.specs.Tree.{recordLen}
+use Rattle.trees.specs.Walk.{Trace, perNode}
+use Rattle.trees.specs.WalkCall.{Lent, walkOf, report, blocksAfter, recordsAfter}
+use Rattle.trees.specs.Build.{planOf, rootOf}
+use Rattle.trees.specs.Shapes.{shapeOf}
+
+-- the planned levels of a list
+abbrev pub levelsFor : Geometry → TreeKind → List ℕ → ℕ
+levelsFor g kind list = length (planOf (shapeOf g kind) list)
+
+-- lists long enough for the records and the blocks, with 12's scratch
+pub record LongEnough (g : Geometry) (kind : TreeKind) (list numbers : List ℕ) (m : Lent) : Type 0 where
+  pub stack : 2 * levelsFor g kind list * perNode (shapeOf g kind) ≤ m .stack
+  pub scratch : m .blocks ≤ m .scratch
+  pub blocks : length numbers ≤ m .blocks
+  pub bytes : length list ≤ m .bytes
+
+-- the walk of an image from the last of the numbers, over the planned levels
+abbrev pub walkBack : Geometry → TreeKind → List ℕ → List ℕ → List ℕ → Lent → Outcome Trace
+walkBack g kind list numbers image m =
+    walkOf g kind image (rootOf numbers) (levelsFor g kind list) m
+
+-- it gives back the records byte for byte and the numbers, both in order, with one visit to each block
+pub record Returned (g : Geometry) (kind : TreeKind) (list numbers image : List ℕ) (m : Lent) : Type 0 where
+  pub reported : report (recordLen kind) (walkBack g kind list numbers image m)
+      ≡ record {
+        outcome = done (record { visits = length numbers; records = length list / recordLen kind; bytes = length list });
+        passed = length numbers;
+      }
+  pub records : (l : List ℕ) → recordsAfter (walkBack g kind list numbers image m) l ≡ withBytes l 0 list
+  pub blocks : (l : List ℕ) → blocksAfter (levelsFor g kind list) (walkBack g kind list numbers image m) l ≡ withBytes l 0 numbers

@@ -1,0 +1,63 @@
+-- Document 01's number and values of each refusal of a walk, and what each answer says.
+-- Assumes nothing.
+use Prim.Native.Nat.{ℕ}
+use mathlib.Core.Path.{_≡_}
+use mathlib.Core.List.{List}
+use lib.ListN.{take}
+use Rattle.codec.specs.Bytes.{withBytes}
+use Rattle.codec.specs.Question.{Values, none, Outcome, done, refused}
+use Rattle.trees.specs.declared.walk.Count.{Count}
+use Rattle.trees.specs.declared.walk.WalkRefusal.{WalkRefusal}
+use Rattle.trees.specs.declared.walk.WalkRefusal.the-variants as why
+use Rattle.trees.specs.declared.walk.Step.{Step}
+use Rattle.trees.specs.declared.walk.Step.the-variants.{Next, Stop}
+use Rattle.trees.specs.declared.walk.Walked.{Walked}
+use Rattle.trees.specs.declared.walk.Walked.the-variants.{Read, Refused}
+use Rattle.blocks.specs.Refusal.{refusalNumber, refusalValues}
+use Rattle.trees.specs.Walk.{Trace, visits, records}
+use Rattle.trees.specs.WalkState.{seenOf}
+use Rattle.trees.specs.WalkCall.{Counts, Report, report, scratchAfter, blocksAfter, recordsAfter}
+
+abbrev pub walkNumber : WalkRefusal → ℕ
+walkNumber why.Levels = 11
+walkNumber why.Scratch = 12
+walkNumber why.Visits = 13
+walkNumber why.Outside = 14
+walkNumber (why.Block r) = refusalNumber r
+walkNumber why.Full = 15
+
+abbrev pub walkValues : WalkRefusal → Values
+walkValues why.Levels = none
+walkValues why.Scratch = none
+walkValues why.Visits = none
+walkValues why.Outside = none
+walkValues (why.Block r) = refusalValues r
+walkValues why.Full = none
+
+-- a visit: the counts after it, or its refusal
+abbrev pub stepOutcome : Step → Outcome Count
+stepOutcome (Next c) = done c
+stepOutcome (Stop r) = refused (walkNumber r) (walkValues r)
+
+-- a walk: its counts or its refusal, and how many blocks passed 13
+abbrev pub walkedReport : Walked → Report
+walkedReport (Read visits records bytes) = record { outcome = done (record { visits = visits; records = records; bytes = bytes }); passed = visits }
+walkedReport (Refused r visits) = record { outcome = refused (walkNumber r) (walkValues r); passed = visits }
+
+-- a visit that was refused ends the walk, after so many visits
+abbrev pub stopReport : Outcome Count → ℕ → Report
+stopReport (refused n x) visits = record { outcome = refused n x; passed = visits }
+stopReport (done c) visits = record { outcome = done (record { visits = visits; records = 0; bytes = c .bytes }); passed = visits }
+
+-- what a walk that has read its last block leaves in the level scratch and the record list
+abbrev pub left : Walked → Trace → List ℕ → List ℕ → List ℕ → Type 0
+left (Read v n b) t scratch out out′ = (seenOf (take v scratch) ≡ visits t) × (out′ ≡ withBytes out 0 (records t))
+left (Refused r v) t scratch out out′ = Unit {0}
+
+-- a call's answer, and the four lent slices after it, where what it comes to is o: for records of w bytes, and a tree of so many levels
+pub record WalkIs (w levels : ℕ) (o : Outcome Trace) (r : Walked) (stack stack′ scratch scratch′ blocks blocks′ out out′ : List ℕ) : Type 0 where
+  pub answer : walkedReport r ≡ report w o
+  pub stack-is : stack′ ≡ scratchAfter o stack
+  pub scratch-is : scratch′ ≡ scratchAfter o scratch
+  pub blocks-are : blocks′ ≡ blocksAfter levels o blocks
+  pub records-are : out′ ≡ recordsAfter o out
