@@ -1,0 +1,318 @@
+-- Laws of joining record by record: one push, and the three of a record that is lowered.
+-- Assumes nothing.
+use Prim.Native.Nat.{ℕ, zero, suc, _+_, _-_, _*_, _^_, _≤_, _<_, min, max}
+use native.Mathlib.Omega.{arith}
+use mathlib.Core.Path.{_≡_, refl, sym, ap, _∙_}
+use mathlib.Core.Bool.{Bool, true, false, not, _&&_, and-false, cond}
+use mathlib.Core.List.{List, [], _∷_, _++_, append-assoc, append-nil}
+use lib.Dec.{ltb, leb, eqb}
+use lib.ListN.{length, length-append}
+use borrow.Author.Tests.{lt-ltb, le-ltb, le-leb, lt-leb, eq-eqb, ne-eqb, eqb-false}
+use Rattle.codec.specs.Records.{Kind, bytesOf, refcounts}
+use Rattle.codec.specs.declared.refcount.Refcount.{Refcount}
+use Rattle.codec.proofs.RecordLists.{length-bytesOf, bytesOf-append}
+use Rattle.codec.proofs.RecordKinds.{refcounts-lawful}
+use Rattle.lists.specs.declared.join.Joiner.{Joiner}
+use Rattle.lists.specs.Release.{stop, piece, middle, clamp, lowered, continues, joined, joinFrom, joinAll}
+use Rattle.lists.specs.Passes.{putIf, recordOf, pending, joinOn, goesOn, fewer, share, Lies, Fits, Room, Cut, Pushed}
+use Rattle.lists.proofs.Cases.{split, tests}
+use Rattle.lists.proofs.Puts.{put-nil, put-put}
+
+abbrev W : List Refcount → List ℕ
+W l = bytesOf refcounts l
+
+length-W : (l : List Refcount) → length (W l) ≡ length l * 12
+length-W l = length-bytesOf refcounts refcounts-lawful l
+
+-- ---- the record that waits
+
+pub finish-none : (w : Bool) (j : Joiner) (out : List ℕ) → j .count ≡ 0 → (j .at ≡ j .at + length (W (pending j))) × (out ≡ putIf w out (j .at) (W (pending j)))
+unfolding pending bytesOf
+finish-none w j out h = rw (eq-eqb (j .count) 0 h) (omega arith, sym (put-nil w out (j .at)))
+
+pub finish-some : (j : Joiner) → 0 < j .count → (j .at + 12 ≡ j .at + length (W (pending j))) × (refcounts .encode (recordOf j) ≡ W (pending j))
+unfolding pending bytesOf
+finish-some j h =
+    let q : pending j ≡ recordOf j ∷ [] = rw (ne-eqb (j .count) 0 (omega arith)) refl in
+    (omega (arith, length-W (pending j), ap length q), rw q (sym (append-nil (refcounts .encode (recordOf j)))))
+
+pub joinOn-nil : (j : Joiner) → joinOn j [] ≡ pending j
+unfolding joinOn pending joinAll joinFrom
+joinOn-nil j = refl
+
+joinFrom-some : (r : Refcount) (l : List Refcount) → 1 ≤ length (joinFrom r l)
+unfolding joinFrom
+joinFrom-some r [] = omega arith
+joinFrom-some r (s ∷ l) = split (continues r s) (λ e. rw e (joinFrom-some (joined r s) l)) (λ e. rw e (omega arith))
+
+joinOn-some : (j : Joiner) (l : List Refcount) → 0 < j .count → 12 ≤ length (W (joinOn j l))
+joinOn-some j l h =
+    let q : joinOn j l ≡ joinFrom (recordOf j) l = unfold joinOn in rw (ne-eqb (j .count) 0 (omega arith)) refl in
+    omega (arith, length-W (joinOn j l), ap length q, joinFrom-some (recordOf j) l)
+
+pub room-for : (w : Bool) (j : Joiner) (l : List Refcount) (n : ℕ) → (w ≡ true → j .at + length (W (joinOn j l)) ≤ n) → Room w j n
+room-for w j l n h u c = omega (arith, h u, joinOn-some j l c)
+
+-- records to come never make fewer of those at hand
+joinFrom-more : (r : Refcount) (p l : List Refcount) → length (joinFrom r p) ≤ length (joinFrom r (p ++ l))
+unfolding joinFrom
+joinFrom-more r [] l = joinFrom-some r l
+joinFrom-more r (s ∷ p) l =
+    split (continues r s) (λ e. rw e (joinFrom-more (joined r s) p l)) (λ e. rw e (omega (arith, joinFrom-more s p l)))
+
+joinAll-more : (p l : List Refcount) → length (joinAll p) ≤ length (joinAll (p ++ l))
+unfolding joinAll
+joinAll-more [] l = omega arith
+joinAll-more (r ∷ p) l = joinFrom-more r p l
+
+pub joinOn-more : (j : Joiner) (p l : List Refcount) → length (W (joinOn j p)) ≤ length (W (joinOn j (p ++ l)))
+unfolding joinOn
+joinOn-more j p l =
+    split (eqb (j .count) 0)
+    (λ e. rw e (omega (arith, length-W (joinAll p), length-W (joinAll (p ++ l)), joinAll-more p l)))
+    (λ e. rw e (omega (arith, length-W (joinFrom (recordOf j) p), length-W (joinFrom (recordOf j) (p ++ l)), joinFrom-more (recordOf j) p l)))
+
+-- ---- what is pushed
+
+pub share-none : (a z n : ℕ) → z ≤ a → share a z n ≡ []
+unfolding share piece
+share-none a z n h = rw (le-ltb a z h) (split (eqb n 0) (λ e. rw e refl) (λ e. rw e refl))
+
+pub share-zero : (a z n : ℕ) → n ≡ 0 → share a z n ≡ []
+unfolding share
+share-zero a z n h = rw (eq-eqb n 0 h) refl
+
+share-piece : (a z n : ℕ) → 0 < n → share a z n ≡ piece a z n
+unfolding share
+share-piece a z n h = rw (ne-eqb n 0 (omega arith)) refl
+
+share-some : (a z n : ℕ) → a < z → 0 < n → share a z n ≡ record { startblock = a; blockcount = z - a; refcount = n } ∷ []
+unfolding share piece
+share-some a z n h k = rw (ne-eqb n 0 (omega arith), lt-ltb a z h) refl
+
+share-middle : (a z n : ℕ) → share a z (fewer n) ≡ middle a z n
+unfolding share fewer middle
+share-middle a z n = split (leb n 2) (λ e. rw e refl) (λ e. rw e (rw (ne-eqb (n - 1) 0 (omega tests)) refl))
+
+pub fewer-none : (n : ℕ) → n ≤ 2 → 0 ≡ fewer n
+unfolding fewer
+fewer-none n h = rw (le-leb n 2 h) refl
+
+pub fewer-some : (n : ℕ) → 2 < n → n - 1 ≡ fewer n
+unfolding fewer
+fewer-some n h = rw (lt-leb n 2 h) refl
+
+-- ---- one push
+
+-- the same finished list
+same : (w : Bool) (j k : Joiner) (out : List ℕ) (p : List Refcount) (z : ℕ) → k .at ≡ j .at → Fits k → k .start + k .count ≤ z → ((l : List Refcount) → joinOn k l ≡ joinOn j (p ++ l)) → Pushed w j out p z k out
+same w j k out p z a h b q =
+    record {
+      fits = h;
+      behind = b;
+      size = λ l. omega (arith, ap (λ (m : List Refcount). length (W m)) (q l));
+      bytes = λ l. ap (λ (n : ℕ). putIf w out n (W (joinOn k l))) a ∙ ap (λ (m : List Refcount). putIf w out (j .at) (W m)) (q l);
+    }
+
+pub push-none : (w : Bool) (j : Joiner) (out : List ℕ) (p : List Refcount) (z : ℕ) → Fits j → j .start + j .count ≤ z → p ≡ [] → Pushed w j out p z j out
+push-none w j out p z f b e = same w j j out p z refl f b (λ l. rw e refl)
+
+goes-facts : (j : Joiner) (a n : ℕ) → goesOn j a n ≡ true → (0 < j .count) × (j .start + j .count ≡ a) × (j .owners ≡ n)
+unfolding goesOn
+goes-facts j a n t =
+    split (eqb (j .count) 0)
+    (λ e. let z : false ≡ true = rw e at t in absurd (let y : _≡_ {A = ℕ} 0 1 = cc in omega arith))
+    (λ e. split (eqb (j .start + j .count) a)
+    (λ f. split (eqb (j .owners) n)
+    (λ g. (omega (tests, eqb-false (j .count) 0 e), omega tests, omega tests))
+    (λ g. let z : false ≡ true = rw (e, f, g) at t in absurd (let y : _≡_ {A = ℕ} 0 1 = cc in omega arith)))
+    (λ f. let z : false ≡ true = rw (e, f) at t in absurd (let y : _≡_ {A = ℕ} 0 1 = cc in omega arith)))
+
+-- places of n owners are fewer than 2^32
+pub short : (a z n : ℕ) → Lies a z n → a < z → 0 < n → z - a < 2 ^ 32
+short a z n f h k = split (leb n 1) (λ e. let q : n ≡ 1 = omega tests in omega (arith, f .staging q, f .end)) (λ e. omega (arith, f .shared (omega tests)))
+
+module _ (w : Bool) (j : Joiner) (a z n : ℕ) (h : a < z) (o : 0 < n) (lies : Lies a z n) (fits : Fits j) (behind : j .start + j .count ≤ a) where
+  pub joined-short : goesOn j a n ≡ true → j .count + (z - a) < 2 ^ 32
+  joined-short g =
+      let f = goes-facts j a n g in
+      let k : Lies (j .start) z n = record { end = lies .end; owners = lies .owners; shared = lies .shared; staging = λ u. fits .lies .staging (omega arith) } in
+      omega (arith, short (j .start) z n k (omega arith) o)
+
+  pub push-join : (out : List ℕ) → goesOn j a n ≡ true → Pushed w j out (share a z n) z (record { start = j .start; count = j .count + (z - a); owners = n; at = j .at }) out
+  push-join out g =
+      let f = goes-facts j a n g in
+      let q : j .start + (j .count + (z - a)) ≡ z = omega arith in
+      let k : Lies (j .start) z n = record { end = lies .end; owners = lies .owners; shared = lies .shared; staging = λ u. fits .lies .staging (omega arith) } in
+      same w j (record { start = j .start; count = j .count + (z - a); owners = n; at = j .at }) out (share a z n) z refl
+      (record { lies = rw q k; count = joined-short g; place = fits .place })
+      (omega arith)
+      (λ l. rw (share-some a z n h o) (step f l))
+    where
+      step : (0 < j .count) × (j .start + j .count ≡ a) × (j .owners ≡ n) → (l : List Refcount)
+          → joinOn (record { start = j .start; count = j .count + (z - a); owners = n; at = j .at }) l ≡ joinOn j (record { startblock = a; blockcount = z - a; refcount = n } ∷ l)
+      step f l =
+          unfold joinOn joinFrom continues in
+          rw (ne-eqb (j .count + (z - a)) 0 (omega arith), ne-eqb (j .count) 0 (omega arith), eq-eqb (j .start + j .count) a (f .1), eq-eqb (j .owners) n (f .2), f .2) refl
+
+  pub push-next : (out out′ : List ℕ) (at : ℕ) → Room w j (length out) → goesOn j a n ≡ false → at ≡ j .at + length (W (pending j)) → out′ ≡ putIf w out (j .at) (W (pending j))
+      → Pushed w j out (share a z n) z (record { start = a; count = z - a; owners = n; at = at }) out′
+  push-next out out′ at room g e f =
+      let q : a + (z - a) ≡ z = omega arith in
+      record {
+        fits = record { lies = rw q lies; count = short a z n lies h o; place = place };
+        behind = omega arith;
+        size = λ l. rw (first l, rest l, bytesOf-append refcounts refcounts-lawful) (omega (arith, length-append (W (pending j)) (W (joinFrom (record { startblock = a; blockcount = z - a; refcount = n }) l))));
+        bytes = λ l. rw (first l, rest l, bytesOf-append refcounts refcounts-lawful, f) (put-put w out (j .at) at (W (pending j)) (W (joinFrom (record { startblock = a; blockcount = z - a; refcount = n }) l)) roomy e);
+      }
+    where
+      by-count : {P : Type 0} → (j .count ≡ 0 → P) → (0 < j .count → P) → P
+      by-count f g = split (eqb (j .count) 0) (λ q. f (omega tests)) (λ q. g (omega (arith, eqb-false (j .count) 0 q)))
+
+      place : at ≤ 12 * a
+      place = by-count (λ q. omega (arith, finish-none w j out q .0, fits .place)) (λ q. omega (arith, finish-some j q .0, fits .place))
+
+      roomy : w ≡ true → 0 < length (W (pending j)) → j .at + length (W (pending j)) ≤ length out
+      roomy u v = by-count (λ q. absurd (omega (arith, finish-none w j out q .0))) (λ q. omega (arith, room u q, finish-some j q .0))
+
+      first : (l : List Refcount) → joinOn (record { start = a; count = z - a; owners = n; at = at }) l ≡ joinFrom (record { startblock = a; blockcount = z - a; refcount = n }) l
+      first l = unfold joinOn in rw (ne-eqb (z - a) 0 (omega arith)) refl
+
+      rest : (l : List Refcount) → joinOn j (share a z n ++ l) ≡ pending j ++ joinFrom (record { startblock = a; blockcount = z - a; refcount = n }) l
+      rest l = rw (share-some a z n h o) (go (eqb (j .count) 0) (continues (recordOf j) (record { startblock = a; blockcount = z - a; refcount = n })) refl refl)
+        where
+          go : (s t : Bool) → eqb (j .count) 0 ≡ s → continues (recordOf j) (record { startblock = a; blockcount = z - a; refcount = n }) ≡ t
+              → joinOn j (record { startblock = a; blockcount = z - a; refcount = n } ∷ l) ≡ pending j ++ joinFrom (record { startblock = a; blockcount = z - a; refcount = n }) l
+          go true t p q = unfold joinOn joinAll pending in rw p refl
+          go false true p q = let y : _≡_ {A = Bool} true false = unfold goesOn continues in (sym (rw (p, q) refl) ∙ g) in cc
+          go false false p q = unfold joinOn joinFrom pending in rw (p, q) refl
+
+module _ (j : Joiner) (a n : ℕ) where
+  pub goes-none : j .count ≡ 0 → false ≡ goesOn j a n
+  unfolding goesOn
+  goes-none h = rw (eq-eqb (j .count) 0 h) refl
+
+  pub goes-owners : 0 < j .count → j .start + j .count ≡ a → eqb (j .owners) n ≡ goesOn j a n
+  unfolding goesOn
+  goes-owners h k = rw (ne-eqb (j .count) 0 (omega arith), eq-eqb (j .start + j .count) a k) refl
+
+  pub goes-gap : (j .start + j .count ≡ a → ⊥) → false ≡ goesOn j a n
+  unfolding goesOn
+  goes-gap h = rw (ne-eqb (j .start + j .count) a h) (sym (and-false (not (eqb (j .count) 0))))
+
+-- ---- one push after another
+
+pushed-pushed : (w : Bool) (i j k : Joiner) (out out′ out″ : List ℕ) (p q : List Refcount) (y z : ℕ) → Pushed w i out p y j out′ → Pushed w j out′ q z k out″ → Pushed w i out (p ++ q) z k out″
+pushed-pushed w i j k out out′ out″ p q y z f g =
+    record {
+      fits = g .fits;
+      behind = g .behind;
+      size = λ l. g .size l ∙ f .size (q ++ l) ∙ ap (λ (m : List Refcount). i .at + length (W (joinOn i m))) (sym (append-assoc p q l));
+      bytes = λ l. g .bytes l ∙ f .bytes (q ++ l) ∙ ap (λ (m : List Refcount). putIf w out (i .at) (W (joinOn i m))) (sym (append-assoc p q l));
+    }
+
+-- the room for all of them is room for those after the first
+pushed-room : (w : Bool) (j k : Joiner) (out out′ : List ℕ) (p l : List Refcount) (z : ℕ) → Pushed w j out p z k out′ → length out′ ≡ length out
+    → (w ≡ true → j .at + length (W (joinOn j (p ++ l))) ≤ length out) → w ≡ true → k .at + length (W (joinOn k l)) ≤ length out′
+pushed-room w j k out out′ p l z f n h u = omega (arith, h u, f .size l)
+
+-- ---- a record's parts
+
+lies-part : (a z n b y : ℕ) → Lies a z n → a ≤ b → y ≤ z → Lies b y n
+lies-part a z n b y f g h = record { end = omega (arith, f .end); owners = f .owners; shared = λ u. omega (arith, f .shared u); staging = λ u. omega (arith, f .staging u) }
+
+lies-fewer : (a z n b y : ℕ) → Lies a z n → a ≤ b → y ≤ z → Lies b y (fewer n)
+unfolding fewer
+lies-fewer a z n b y f g h =
+    split (leb n 2)
+    (λ e. rw e (record { end = omega (arith, f .end); owners = omega arith; shared = λ u. absurd (omega arith); staging = λ u. absurd (omega arith) }))
+    (λ e. rw e (record { end = omega (arith, f .end); owners = omega (arith, f .owners); shared = λ u. omega (arith, f .shared (omega tests)); staging = λ u. absurd (omega tests) }))
+
+parts : (s e : ℕ) (r : Refcount) (a z m : ℕ) → 0 < r .refcount → a ≡ max (r .startblock) (min s (stop r)) → z ≡ max (r .startblock) (min e (stop r)) → m ≡ fewer (r .refcount)
+    → lowered s e r ≡ share (r .startblock) a (r .refcount) ++ (share a z m ++ share z (stop r) (r .refcount))
+unfolding lowered clamp
+parts s e r a z m o qa qz qm =
+    rw (qm, share-middle a z (r .refcount), share-piece (r .startblock) a (r .refcount) o, share-piece z (stop r) (r .refcount) o, qa, qz) refl
+
+-- what a push asks
+abbrev pub Asks : Bool → Joiner → (a z n room : ℕ) → Type 0
+Asks w j a z n room = Lies a z n × (((a ≤ z) × (j .start + j .count ≤ a)) × (Fits j × Room w j room))
+
+module _ (w : Bool) (s e : ℕ) (j : Joiner) (r : Refcount) (out : List ℕ) (cut : Cut w s e j r (length out)) (a z m : ℕ)
+    (qa : a ≡ max (r .startblock) (min s (stop r))) (qz : z ≡ max (r .startblock) (min e (stop r))) (qm : m ≡ fewer (r .refcount)) where
+  abbrev front : List Refcount
+  front = share (r .startblock) a (r .refcount)
+
+  abbrev behind : List Refcount
+  behind = share z (stop r) (r .refcount)
+
+  room-all : w ≡ true → j .at + length (W (joinOn j (front ++ (share a z m ++ behind)))) ≤ length out
+  room-all u = rw (← parts s e r a z m (cut .owned) qa qz qm) (cut .room u)
+
+  pub asks-front : Asks w j (r .startblock) a (r .refcount) (length out)
+  asks-front =
+      let h : s ≤ e = cut .extent in
+      (lies-part _ _ _ _ _ (cut .lies) (omega arith) (omega arith), ((omega arith, cut .behind), (cut .fits, room-for w j (front ++ (share a z m ++ behind)) (length out) room-all)))
+
+  module _ (k : Joiner) (out′ : List ℕ) (g : Pushed w j out front a k out′) (n : length out′ ≡ length out) where
+    room-more : w ≡ true → k .at + length (W (joinOn k (share a z m ++ behind))) ≤ length out′
+    room-more = pushed-room w j k out out′ front (share a z m ++ behind) a g n room-all
+
+    pub asks-middle : Asks w k a z m (length out′)
+    asks-middle =
+        let h : s ≤ e = cut .extent in
+        let f : Lies a z (fewer (r .refcount)) = lies-fewer _ _ _ _ _ (cut .lies) (omega arith) (omega arith) in
+        (rw qm f, ((omega arith, g .behind), (g .fits, room-for w k (share a z m ++ behind) (length out′) room-more)))
+
+    module _ (i : Joiner) (out″ : List ℕ) (g′ : Pushed w k out′ (share a z m) z i out″) (n′ : length out″ ≡ length out′) where
+      pub asks-behind : Asks w i z (stop r) (r .refcount) (length out″)
+      asks-behind =
+          (lies-part _ _ _ _ _ (cut .lies) (omega arith) (omega arith), ((omega arith, g′ .behind), (g′ .fits, room-for w i behind (length out″) (pushed-room w k i out′ out″ (share a z m) behind z g′ n′ room-more))))
+
+      pub lowered-pushed : (last : Joiner) (out‴ : List ℕ) → Pushed w i out″ behind (stop r) last out‴ → Pushed w j out (lowered s e r) (stop r) last out‴
+      lowered-pushed last out‴ g″ =
+          rw (parts s e r a z m (cut .owned) qa qz qm)
+          (pushed-pushed w j k last out out′ out‴ front (share a z m ++ behind) a (stop r) g (pushed-pushed w k i last out′ out″ out‴ (share a z m) behind z (stop r) g′ g″))
+
+-- a record that the extent does not meet
+
+piece-none : (a n : ℕ) → piece a a n ≡ []
+unfolding piece
+piece-none a n = rw (le-ltb a a (omega arith)) refl
+
+middle-none : (a n : ℕ) → middle a a n ≡ []
+unfolding middle
+middle-none a n = split (leb n 2) (λ t. rw t refl) (λ t. rw t (piece-none a (n - 1)))
+
+clamp-low : (r : Refcount) (s : ℕ) → s ≤ r .startblock → clamp r s ≡ r .startblock
+unfolding clamp
+clamp-low r s h = omega arith
+
+clamp-high : (r : Refcount) (s : ℕ) → stop r ≤ s → clamp r s ≡ stop r
+unfolding clamp
+clamp-high r s h = omega arith
+
+module _ (w : Bool) (s e : ℕ) (j : Joiner) (r : Refcount) (out : List ℕ) (cut : Cut w s e j r (length out)) (apart : (ltb s (stop r) && ltb (r .startblock) e) ≡ false) where
+  untouched : lowered s e r ≡ share (r .startblock) (stop r) (r .refcount)
+  unfolding lowered
+  untouched =
+      let h : s ≤ e = cut .extent in
+      rw (share-piece (r .startblock) (stop r) (r .refcount) (cut .owned))
+      (split (ltb s (stop r))
+      (λ u. let v : ltb (r .startblock) e ≡ false = rw u at apart in
+      rw (clamp-low r s (omega tests), clamp-low r e (omega tests), piece-none (r .startblock) (r .refcount), middle-none (r .startblock) (r .refcount)) refl)
+      (λ u. rw (clamp-high r s (omega tests), clamp-high r e (omega tests), middle-none (stop r) (r .refcount), piece-none (stop r) (r .refcount))
+      (append-nil (piece (r .startblock) (stop r) (r .refcount)))))
+
+  pub asks-whole : Asks w j (r .startblock) (stop r) (r .refcount) (length out)
+  asks-whole = (cut .lies, ((omega arith, cut .behind), (cut .fits, room-for w j (lowered s e r) (length out) (cut .room))))
+
+  pub whole-pushed : (k : Joiner) (out′ : List ℕ) → Pushed w j out (share (r .startblock) (stop r) (r .refcount)) (stop r) k out′ → Pushed w j out (lowered s e r) (stop r) k out′
+  whole-pushed k out′ g = rw untouched g
+
+module _ (start end s e : ℕ) where
+  pub meets-not : end ≤ s → false ≡ (ltb s end && ltb start e)
+  meets-not h = rw (le-ltb s end h) refl
+
+  pub meets-by : s < end → ltb start e ≡ (ltb s end && ltb start e)
+  meets-by h = rw (lt-ltb s end h) refl

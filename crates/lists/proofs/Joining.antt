@@ -1,0 +1,230 @@
+-- The tests of the code on two records, and a record joined to one of the list.
+-- Assumes nothing.
+use Prim.Native.Nat.{ℕ, suc, _+_, _%_, _^_, _≤_, _<_}
+use mathlib.Core.Path.{_≡_, refl, sym, ap, _∙_}
+use mathlib.Core.Bool.{Bool, true, false, not, cond, _&&_, _||_, and-false}
+use mathlib.Core.List.{List, _∷_, _++_}
+use native.Mathlib.Omega.{arith}
+use lib.Dec.{ltb, leb, eqb}
+use lib.ListN.{length, getD, take, drop, drop-of-length-le}
+use lib.Seq.{drop-cons, append-snoc, take-suc}
+use borrow.Author.Tests.{lt-ltb, le-ltb, lt-leb, le-leb, eq-eqb, ne-eqb}
+use Rattle.codec.specs.Rmaps.{end, flags, fileOffset, reserved, exempt, least, accepted}
+use Rattle.codec.specs.declared.rmap.Rmap.{Rmap}
+use Rattle.lists.specs.declared.rmap_plans.Joined.{Joined}
+use Rattle.lists.specs.RmapEdits.{continues, joined, attach, clash, contains, linesUp}
+use Rattle.lists.specs.RmapPlans.{alike, joinAt}
+use Rattle.lists.proofs.Cases.{split, tests, conj, and-l, and-r}
+use Rattle.lists.proofs.Found.{continues-end}
+use Rattle.lists.proofs.RmapOrder.{each, accepted-facts}
+
+-- ---- the tests of the code
+
+and-assoc : (a b c : Bool) → (a && (b && c)) ≡ ((a && b) && c)
+and-assoc true b c = refl
+and-assoc false b c = refl
+
+or-right : (a : Bool) → (a || true) ≡ true
+or-right true = refl
+or-right false = refl
+
+or-none : (a : Bool) → (a || false) ≡ a
+or-none true = refl
+or-none false = refl
+
+module _ (r s : Rmap) where
+  continues-alike : continues r s ≡ (alike r s && (eqb (end r) (s .startblock) && (reserved (r .owner) || eqb (fileOffset r + r .blockcount) (fileOffset s))))
+  unfolding continues
+  continues-alike =
+      and-assoc (eqb (r .owner) (s .owner)) (eqb (flags r) (flags s))
+      (eqb (end r) (s .startblock) && (reserved (r .owner) || eqb (fileOffset r + r .blockcount) (fileOffset s)))
+
+  pub alike-owner : (r .owner ≡ s .owner → ⊥) → false ≡ alike r s
+  alike-owner h = simp (ne-eqb _ _ h)
+
+  pub alike-flags : r .owner ≡ s .owner → eqb (flags r) (flags s) ≡ alike r s
+  alike-flags h = simp (eq-eqb _ _ h)
+
+  pub cont-unlike : alike r s ≡ false → false ≡ continues r s
+  cont-unlike h = sym (continues-alike ∙ rw h refl)
+
+  pub cont-apart : (end r ≡ s .startblock → ⊥) → false ≡ continues r s
+  unfolding continues
+  cont-apart h = simp (ne-eqb _ _ h, and-false)
+
+  module _ (a : alike r s ≡ true) (b : end r ≡ s .startblock) where
+    pub cont-reserved : 2 ^ 63 ≤ r .owner → true ≡ continues r s
+    unfolding reserved
+    cont-reserved h = sym (continues-alike ∙ rw (a, eq-eqb (end r) (s .startblock) b, le-leb (2 ^ 63) (r .owner) h) refl)
+
+    pub cont-offset : r .owner < 2 ^ 63 → eqb (fileOffset r + r .blockcount) (fileOffset s) ≡ continues r s
+    unfolding reserved
+    cont-offset h = sym (continues-alike ∙ rw (a, eq-eqb (end r) (s .startblock) b, lt-leb (2 ^ 63) (r .owner) h) refl)
+
+module _ (x r : Rmap) where
+  -- ---- contains
+
+  contains-alike : contains x r ≡ (alike r x && (leb (r .startblock) (x .startblock) && leb (end x) (end r)))
+  unfolding contains
+  contains-alike = and-assoc (eqb (r .owner) (x .owner)) (eqb (flags r) (flags x)) (leb (r .startblock) (x .startblock) && leb (end x) (end r))
+
+  pub holds-unlike : alike r x ≡ false → false ≡ contains x r
+  holds-unlike h = sym (contains-alike ∙ rw h refl)
+
+  pub holds-later : x .startblock < r .startblock → false ≡ contains x r
+  unfolding contains
+  holds-later h = simp (lt-leb _ _ h, and-false)
+
+  pub holds-end : alike r x ≡ true → r .startblock ≤ x .startblock → leb (end x) (end r) ≡ contains x r
+  holds-end a h = sym (contains-alike ∙ rw (a, le-leb (r .startblock) (x .startblock) h) refl)
+
+  pub lines-exempt : exempt r ≡ true → true ≡ linesUp x r
+  unfolding linesUp
+  lines-exempt h = rw h refl
+
+  pub lines-offset : exempt r ≡ false → eqb (fileOffset r + x .startblock) (fileOffset x + r .startblock) ≡ linesUp x r
+  unfolding linesUp
+  lines-offset h = rw h refl
+
+  -- ---- clash
+
+  pub clash-after : end x ≤ r .startblock → false ≡ clash x r
+  unfolding clash
+  clash-after h = simp (le-ltb _ _ h)
+
+  pub clash-before : end r ≤ x .startblock → false ≡ clash x r
+  unfolding clash
+  clash-before h = simp (le-ltb _ _ h, and-false)
+
+  module _ (a : r .startblock < end x) (b : x .startblock < end r) where
+    clash-over : clash x r ≡ (exempt r || (exempt x || (alike r x && eqb (fileOffset r + x .startblock) (fileOffset x + r .startblock))))
+    unfolding clash
+    clash-over =
+        rw (lt-ltb (r .startblock) (end x) a, lt-ltb (x .startblock) (end r) b)
+        (ap (λ (t : Bool). exempt r || (exempt x || t))
+        (and-assoc (eqb (r .owner) (x .owner)) (eqb (flags r) (flags x)) (eqb (fileOffset r + x .startblock) (fileOffset x + r .startblock))))
+
+    pub clash-exempt : exempt x ≡ true → true ≡ clash x r
+    clash-exempt h = sym (clash-over ∙ rw h (or-right (exempt r)))
+
+    module _ (c : exempt x ≡ false) where
+      pub clash-lines : alike r x ≡ true → (t : Bool) → t ≡ linesUp x r → t ≡ clash x r
+      unfolding linesUp
+      clash-lines h t e = e ∙ sym (clash-over ∙ rw (c, h) refl)
+
+      pub clash-unlike : alike r x ≡ false → (t : Bool) → t ≡ exempt r → t ≡ clash x r
+      clash-unlike h t e = e ∙ sym (clash-over ∙ rw (c, h) (or-none (exempt r)))
+
+-- ---- a join with a record of the list
+
+-- x joined behind the record i, and before it
+abbrev pub lowJoin : List Rmap → ℕ → Rmap → Joined
+lowJoin l i x = joinAt true l i x
+
+abbrev pub highJoin : List Rmap → ℕ → Rmap → Joined
+highJoin l i x = joinAt false l i x
+
+-- the two records of a join, the lower first
+abbrev pub lower : Bool → Rmap → Rmap → Rmap
+lower behind r x = cond behind r x
+
+abbrev pub upper : Bool → Rmap → Rmap → Rmap
+upper behind r x = cond behind x r
+
+module _ (behind : Bool) (l : List Rmap) (i : ℕ) (x : Rmap) where
+  pub join-out : length l ≤ i → record { rmap = x; joins = false } ≡ joinAt behind l i x
+  unfolding joinAt
+  join-out h = rw (le-ltb i (length l) h) refl
+
+  module _ (r : Rmap) (k : i < length l) (f : r ≡ getD l i least) where
+    pub join-miss : continues (lower behind r x) (upper behind r x) ≡ false → record { rmap = x; joins = false } ≡ joinAt behind l i x
+    unfolding joinAt
+    join-miss h = rw (lt-ltb i (length l) k, ← f, h) refl
+
+    pub join-hit : continues (lower behind r x) (upper behind r x) ≡ true → record { rmap = joined (lower behind r x) (upper behind r x); joins = true } ≡ joinAt behind l i x
+    unfolding joinAt
+    join-hit h = rw (lt-ltb i (length l) k, ← f, h) refl
+
+  -- what joins is in the list
+  pub join-in : joinAt behind l i x .joins ≡ true → i < length l
+  join-in e =
+      split (ltb i (length l))
+      (λ f. omega tests)
+      (λ f. let h : length l ≤ i = omega tests in
+      let z : _≡_ {A = ℕ} 0 1 = cc (join-out h) in absurd (omega arith))
+
+  -- both ends of a join lie below 2^31
+  pub join-fits : (r : Rmap) → accepted l ≡ true → end x ≤ 2 ^ 31 → i < length l → r ≡ getD l i least
+      → continues (lower behind r x) (upper behind r x) ≡ true → lower behind r x .blockcount + upper behind r x .blockcount < 2 ^ 32
+  join-fits r a h k f c = go behind (continues-end (lower behind r x) (upper behind r x) c)
+    where
+      ends : end r ≤ 2 ^ 31
+      ends = rw f (each least l i (accepted-facts l a) k .0 .1)
+
+      go : (t : Bool) → end (lower t r x) ≡ upper t r x .startblock → lower t r x .blockcount + upper t r x .blockcount < 2 ^ 32
+      go true e = omega (arith, ends)
+      go false e = omega (arith, ends)
+
+-- what is attached to the records from a place on
+pub attach-high : (x : Rmap) (l : List Rmap) (at : ℕ) → at ≤ length l → attach x (drop at l) ≡ highJoin l at x .rmap ∷ drop (cond (highJoin l at x .joins) (suc at) at) l
+unfolding attach joinAt
+attach-high x l at h =
+    split (ltb at (length l))
+    (λ e. let k : at < length l = omega tests in
+    split (continues x (getD l at least))
+    (λ f. rw (e, f, drop-cons l at least k, f) refl)
+    (λ f. rw (e, f, drop-cons l at least k, f) refl))
+    (λ e. let k : length l ≤ at = omega tests in rw (e, drop-of-length-le l k) refl)
+
+-- the record at i, and y behind it, joined where they can be
+pub attach-low : (l : List Rmap) (i : ℕ) (y : Rmap) (d : List Rmap) → i < length l
+    → take i l ++ attach (getD l i least) (y ∷ d) ≡ take (cond (lowJoin l i y .joins) i (suc i)) l ++ (lowJoin l i y .rmap ∷ d)
+unfolding attach
+attach-low l i y d h =
+    split (continues (getD l i least) y)
+    (λ e. rw (e, ← join-hit true l i y (getD l i least) h refl e) refl)
+    (λ e. rw (e, ← join-miss true l i y (getD l i least) h refl e)
+    (sym (append-snoc (take i l) (getD l i least) (y ∷ d)) ∙ ap (λ (m : List Rmap). m ++ (y ∷ d)) (sym (take-suc l i least h))))
+
+-- a join with a record in front ends where x ends
+pub low-end : (l : List Rmap) (x : Rmap) (i : ℕ) (j : Joined) → end x ≤ 2 ^ 31 → j ≡ lowJoin l i x → end (j .rmap) ≤ 2 ^ 31
+unfolding joinAt
+low-end l x i j h e =
+    rw e
+    (split (ltb i (length l) && continues (getD l i least) x)
+    (λ f. let c : continues (getD l i least) x ≡ true = search conj in
+    let m = continues-end (getD l i least) x c in rw f (omega arith))
+    (λ f. rw f h))
+
+-- and one with a record behind where that ends
+pub high-end : (l : List Rmap) (x : Rmap) (i : ℕ) (j : Joined) → accepted l ≡ true → end x ≤ 2 ^ 31 → j ≡ highJoin l i x → end (j .rmap) ≤ 2 ^ 31
+unfolding joinAt
+high-end l x i j a h e =
+    rw e
+    (split (ltb i (length l) && continues x (getD l i least))
+    (λ f. let c : continues x (getD l i least) ≡ true = search conj in
+    let b : ltb i (length l) ≡ true = search conj in
+    let m = continues-end x (getD l i least) c in
+    let z = each least l i (accepted-facts l a) (omega tests) .0 .1 in rw f (omega arith))
+    (λ f. rw f h))
+
+-- ---- what continues x continues the record that x continues, joined with x
+
+pub continues-joined : (r x s : Rmap) → continues r x ≡ true → continues (joined r x) s ≡ continues x s
+unfolding continues
+continues-joined r x s e =
+    let o : eqb (r .owner) (x .owner) ≡ true = search conj in
+    let f : eqb (flags r) (flags x) ≡ true = search conj in
+    let m : eqb (end r) (x .startblock) ≡ true = search conj in
+    let t : (reserved (r .owner) || eqb (fileOffset r + r .blockcount) (fileOffset x)) ≡ true = search conj in
+    let o′ : r .owner ≡ x .owner = omega tests in
+    let f′ : flags r ≡ flags x = omega tests in
+    let m′ : end (joined r x) ≡ end x = omega tests in
+    let q : (reserved (r .owner) || eqb (fileOffset r + (r .blockcount + x .blockcount)) (fileOffset s)) ≡ (reserved (x .owner) || eqb (fileOffset x + x .blockcount) (fileOffset s)) =
+    split (reserved (r .owner))
+    (λ h. let k : reserved (x .owner) ≡ true = rw (← o′) h in rw (h, k) refl)
+    (λ h. let k : reserved (x .owner) ≡ false = rw (← o′) h in
+    let u : eqb (fileOffset r + r .blockcount) (fileOffset x) ≡ true = rw h at t in
+    let v : fileOffset r + (r .blockcount + x .blockcount) ≡ fileOffset x + x .blockcount = omega tests in
+    rw (h, k, v) refl) in
+    rw (q, o′, f′, m′) refl

@@ -1,0 +1,150 @@
+-- The laws of plans over the bytes of the old list, as the code meets them.
+-- Assumes nothing.
+use Prim.Native.Nat.{ℕ, _+_, _-_, _*_, _/_, _%_, _^_, _≤_, _<_}
+use native.Mathlib.Omega.{arith}
+use mathlib.Core.Path.{_≡_, refl, sym, ap, _∙_}
+use mathlib.Core.Bool.{Bool, true, false, not, cond, _&&_, _||_}
+use mathlib.Core.List.{List, [], _∷_, _++_}
+use lib.Dec.{ltb, leb, eqb}
+use lib.ListN.{length, getD}
+use borrow.Author.Tests.{lt-ltb, le-ltb, le-leb, lt-leb, eqb-false}
+use Rattle.codec.specs.Bytes.{bytesAt, withBytes}
+use Rattle.codec.specs.Question.{none, Outcome, done, refused, Question, answer}
+use Rattle.codec.specs.Records.{Kind, recordsOf, bytesOf, rmaps}
+use Rattle.codec.specs.Rmaps.{end, fileOffset, flags, reserved, mapping, exempt, least, accepted, good}
+use Rattle.codec.specs.declared.rmap.Rmap.{Rmap}
+use Rattle.codec.proofs.RecordLists.{length-recordsOf}
+use Rattle.lists.specs.declared.EditRefusal.{EditRefusal}
+use Rattle.lists.specs.declared.EditRefusal.the-variants as why
+use Rattle.lists.specs.declared.Edited.the-variants as said
+use Rattle.lists.specs.declared.rmap_plans.Asked.the-variants as asked
+use Rattle.lists.specs.declared.rmap_plans.Edit.{Edit}
+use Rattle.lists.specs.declared.rmap_plans.Joined.{Joined}
+use Rattle.lists.specs.declared.rmap_plans.Part.{Part}
+use Rattle.lists.specs.declared.rmap_plans.Plan.{Plan}
+use Rattle.lists.specs.declared.rmap_plans.Planned.{Planned}
+use Rattle.lists.specs.declared.rmap_plans.Planned.the-variants as planned
+use Rattle.lists.specs.RmapEdits.{unclashed, clash, continues, joined, later}
+use Rattle.lists.specs.Edits.{fits, written}
+use Rattle.lists.specs.Answer.{editNumber, editedOutcome, lengthOf}
+use Rattle.lists.specs.RmapPlans.{allowed, edited, editBefore26, editOutcome, indexWhere, joinAt, partsOf, partCount, listOf, PartsGood, PlanGood, TakeGood, AskedIs, PlanIs, PlannedGood, plannedOutcome, roomed}
+use Rattle.lists.proofs.Cases.{split, tests, or-l}
+use Rattle.lists.proofs.Index.{index-le}
+use Rattle.lists.proofs.RmapOrder.{fileEnd, each, accepted-facts, good-facts, facts-good}
+use Rattle.lists.proofs.Joining.{lower, upper, join-out, join-miss, join-hit, join-fits}
+use Rattle.lists.proofs.Scanning.{read-at}
+use Rattle.lists.proofs.Writing.{size-good}
+use Rattle.lists.proofs.Planning.{plan-done, plan-refused, room-asked, unclashed-index}
+
+-- ---- records and indices
+
+pub found-le : (p : Rmap → Bool) (b : List ℕ) (i : ℕ) → i ≡ indexWhere p (recordsOf rmaps b) → i ≤ length b / 24
+found-le p b i e = omega (arith, index-le p (recordsOf rmaps b), length-recordsOf rmaps b)
+
+pub good-end : (x : Rmap) → good x ≡ true → end x ≤ 2 ^ 31
+good-end x e = good-facts x e .1
+
+pub good-at : (b : List ℕ) (i : ℕ) (w : Rmap) → accepted (recordsOf rmaps b) ≡ true → i < length b / 24 → w ≡ rmaps .decode (bytesAt b (i * 24) 24) → good w ≡ true
+good-at b i w a h d =
+    let l : List Rmap = recordsOf rmaps b in
+    rw (read-at b i w h d) (facts-good (getD l i least) (each least l i (accepted-facts l a) (rw (length-recordsOf rmaps b) h) .0))
+
+-- the file offset moves on below bit 62
+pub moved-fits : (w : Rmap) (n : ℕ) → good w ≡ true → exempt w ≡ false → n ≤ w .blockcount → w .offset < 2 ^ 64 → w .offset + n < 2 ^ 64
+unfolding exempt mapping fileEnd
+moved-fits w n g e h k =
+    let f : fileEnd w ≤ 2 ^ 54 = good-facts w g .2 in
+    let o : w .offset % 2 ^ 54 + w .blockcount ≤ 2 ^ 54 = rw e at f in
+    let r : reserved (w .owner) ≡ false = or-l (reserved (w .owner)) (mapping (flags w)) e in
+    let m : eqb (w .offset / 2 ^ 54 / 2 ^ 8 % 2) 1 ≡ false = rw r at e in
+    let q : w .offset / 2 ^ 54 / 2 ^ 8 % 2 ≡ 1 → ⊥ = eqb-false (w .offset / 2 ^ 54 / 2 ^ 8 % 2) 1 m in
+    omega arith
+
+pub later-is : (x w : Rmap) (o : ℕ) → o ≡ cond (exempt w) (w .offset) (w .offset + (end x - w .startblock))
+    → record { startblock = end x; blockcount = end w - end x; owner = w .owner; offset = o } ≡ later x w
+unfolding later
+later-is x w o e = rw e refl
+
+-- ---- a join
+
+module _ (b : List ℕ) (behind : Bool) (i : ℕ) (x : Rmap) where
+  pub joined-out : length b / 24 ≤ i → record { rmap = x; joins = false } ≡ joinAt behind (recordsOf rmaps b) i x
+  joined-out h = join-out behind (recordsOf rmaps b) i x (rw (length-recordsOf rmaps b) h)
+
+  module _ (r low high : Rmap) (k : i < length b / 24) (d : r ≡ rmaps .decode (bytesAt b (i * 24) 24)) (el : low ≡ cond behind r x) (eh : high ≡ cond behind x r) where
+    within : i < length (recordsOf rmaps b)
+    within = rw (length-recordsOf rmaps b) k
+
+    pub joined-miss : continues low high ≡ false → record { rmap = x; joins = false } ≡ joinAt behind (recordsOf rmaps b) i x
+    joined-miss h = join-miss behind (recordsOf rmaps b) i x r within (read-at b i r k d) (rw (el, eh) at h)
+
+    pub joined-hit : (j : Rmap) → j ≡ joined low high → continues low high ≡ true → record { rmap = j; joins = true } ≡ joinAt behind (recordsOf rmaps b) i x
+    joined-hit j e h = rw (e, el, eh) (join-hit behind (recordsOf rmaps b) i x r within (read-at b i r k d) (rw (el, eh) at h))
+
+    pub joined-fits : accepted (recordsOf rmaps b) ≡ true → end x ≤ 2 ^ 31 → continues low high ≡ true → low .blockcount + high .blockcount < 2 ^ 32
+    joined-fits a g h = rw (el, eh) (join-fits behind (recordsOf rmaps b) i x r a g within (read-at b i r k d) (rw (el, eh) at h))
+
+-- ---- plans
+
+pub ready-is : (b : List ℕ) (front : ℕ) (first second : Part) (rest m n : ℕ) → PartsGood (length b / 24) front first second rest → m ≡ partCount first → n ≡ partCount second
+    → (plannedOutcome (recordsOf rmaps b) (planned.Ready (record { front = front; first = first; second = second; rest = rest; size = (front + m + n + (length b / 24 - rest)) * 24 }))
+    ≡ done (partsOf (recordsOf rmaps b) front first second rest))
+    × PlanGood (recordsOf rmaps b) (record { front = front; first = first; second = second; rest = rest; size = (front + m + n + (length b / 24 - rest)) * 24 })
+unfolding plannedOutcome
+ready-is b front first second rest m n g e f =
+    let s = length-recordsOf rmaps b in
+    (refl, size-good (recordsOf rmaps b) front first second rest ((front + m + n + (length b / 24 - rest)) * 24) (rw s g) (rw (s, e, f) refl))
+
+module _ (e : Edit) (b : List ℕ) (x : Rmap) where
+  pub planned-is : TakeGood b x → (p : Planned) (rs : List Rmap) → allowed e x (recordsOf rmaps b) .holds ≡ true → edited e x (recordsOf rmaps b) ≡ rs
+      → (plannedOutcome (recordsOf rmaps b) p ≡ done rs) × PlannedGood (recordsOf rmaps b) p → PlanIs e b x p
+  planned-is g p rs h f r = (r .0 ∙ plan-done e b x g rs h f, r .1)
+
+  pub refused-is : TakeGood b x → (q : EditRefusal) → allowed e x (recordsOf rmaps b) .holds ≡ false → allowed e x (recordsOf rmaps b) .number ≡ editNumber q → allowed e x (recordsOf rmaps b) .values ≡ none
+      → PlanIs e b x (planned.Refused q)
+  unfolding plannedOutcome
+  refused-is g q h n v = (plan-refused e b x g (editNumber q) h n v, tt)
+
+  pub asked-is : (q : EditRefusal) → AskedIs e b x (asked.Refused q) → PlanIs e b x (planned.Refused q)
+  unfolding plannedOutcome editBefore26
+  asked-is q h = (sym (h (allowed e x (recordsOf rmaps b) ∷ []) (done (edited e x (recordsOf rmaps b)))), tt)
+
+  -- ---- 26, and the write
+
+  module _ (o : List ℕ) where
+    pub edit-refused : (q : EditRefusal) → PlanIs e b x (planned.Refused q)
+        → (editedOutcome (said.Refused q) ≡ lengthOf rmaps (editOutcome e b x (length o))) × (o ≡ written rmaps o (editOutcome e b x (length o)))
+    unfolding plannedOutcome roomed written
+    edit-refused q h =
+        let a : refused (editNumber q) none ≡ editOutcome e b x (length o) = ap (roomed (length o)) (h .0) ∙ room-asked e b x (length o) in
+        (ap (lengthOf rmaps) a, ap (written rmaps o) a)
+
+    module _ (p : Plan) (h : PlanIs e b x (planned.Ready p)) where
+      pub edit-short : length o < p .size → (editedOutcome (said.Refused why.Room) ≡ lengthOf rmaps (editOutcome e b x (length o))) × (o ≡ written rmaps o (editOutcome e b x (length o)))
+      unfolding plannedOutcome roomed written
+      edit-short k =
+          let l : List Rmap = listOf (recordsOf rmaps b) p in
+          let n : leb (length (bytesOf rmaps l)) (length o) ≡ false = lt-leb (length (bytesOf rmaps l)) (length o) (omega (arith, h .1 .size)) in
+          let a : roomed (length o) (done l) ≡ editOutcome e b x (length o) = ap (roomed (length o)) (h .0) ∙ room-asked e b x (length o) in
+          let c : refused 26 none ≡ editOutcome e b x (length o) = rw n at a in
+          (ap (lengthOf rmaps) c, ap (written rmaps o) c)
+
+      pub edit-done : (o₁ : List ℕ) → p .size ≤ length o → o₁ ≡ withBytes o 0 (bytesOf rmaps (listOf (recordsOf rmaps b) p))
+          → (editedOutcome (said.Done (p .size)) ≡ lengthOf rmaps (editOutcome e b x (length o))) × (o₁ ≡ written rmaps o (editOutcome e b x (length o)))
+      unfolding plannedOutcome roomed written
+      edit-done o₁ k w =
+          let l : List Rmap = listOf (recordsOf rmaps b) p in
+          let n : leb (length (bytesOf rmaps l)) (length o) ≡ true = le-leb (length (bytesOf rmaps l)) (length o) (omega (arith, h .1 .size)) in
+          let a : roomed (length o) (done l) ≡ editOutcome e b x (length o) = ap (roomed (length o)) (h .0) ∙ room-asked e b x (length o) in
+          let c : done l ≡ editOutcome e b x (length o) = rw n at a in
+          (ap (λ (m : ℕ). done m) (h .1 .size) ∙ ap (lengthOf rmaps) c, w ∙ ap (written rmaps o) c)
+
+-- ---- 23 of insert_shared by the index of the first that clashes
+
+pub clash-found : (b : List ℕ) (x : Rmap) (i : ℕ) → i ≡ indexWhere (clash x) (recordsOf rmaps b) → i < length b / 24 → unclashed x (recordsOf rmaps b) ≡ false
+clash-found b x i e h =
+    unclashed-index x (recordsOf rmaps b) ∙ ap not (lt-ltb (indexWhere (clash x) (recordsOf rmaps b)) (length (recordsOf rmaps b)) (omega (arith, length-recordsOf rmaps b)))
+
+pub clash-none : (b : List ℕ) (x : Rmap) (i : ℕ) → i ≡ indexWhere (clash x) (recordsOf rmaps b) → length b / 24 ≤ i → unclashed x (recordsOf rmaps b) ≡ true
+clash-none b x i e h =
+    unclashed-index x (recordsOf rmaps b) ∙ ap not (le-ltb (indexWhere (clash x) (recordsOf rmaps b)) (length (recordsOf rmaps b)) (omega (arith, length-recordsOf rmaps b)))

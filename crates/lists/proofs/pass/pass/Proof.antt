@@ -1,0 +1,201 @@
+-- `lists::pass::pass` meets its contract: what is carried along and the records to come decide and write as the whole list does.
+-- Assumes nothing.
+use borrow.Author.Needs.{needs}
+use borrow.Author.Tests.{not-true, not-false}
+use Prim.Native.Nat.{_+_, _*_, _-_, _/_, _≤_}
+use mathlib.Core.Path.{_≡_, refl, sym, ap, _∙_}
+use native.Mathlib.Omega.{arith}
+use lib.ListN.{length, drop}
+use denote.Ref.{now}
+use Rattle.codec.specs.Bytes.{IsBytes}
+use Rattle.codec.specs.Records.{recordsOf, refcounts}
+use Rattle.codec.specs.Refcounts.{good, follows}
+use Rattle.codec.proofs.ListOrder.{order-bad, order-low}
+use Rattle.lists.proofs.Passing.{Walking, walking-start, step-asks, walking-step, next, small, no-more, storable, rooms-of, last-accepted, last-clear, finish-asks, finish-done, run-asks, run-done, told-order, told-staging, told-done}
+use Rattle.lists.proofs.pass.pass.Statement.{statement}
+use Rattle.lists.proofs.pass.pass.Tie as tie
+
+abbrev Inv-loop : tie.InvT-loop
+Inv-loop counts startblock blockcount new₀ free₀ write s e n w₀ i₀ new free w i =
+    (i ≤ length counts / 12)
+    × Walking write (recordsOf refcounts counts) startblock (startblock + blockcount) new₀ free₀ new free w (drop i (recordsOf refcounts counts))
+
+abbrev μ-loop : tie.MeasureT-loop
+μ-loop counts startblock blockcount new₀ free₀ write s e n w₀ i₀ new free w i = length counts / 12 - i
+
+add-e : tie.Need-add-e Inv-loop μ-loop
+add-e c = search needs
+
+loop-holds : tie.Need-loop-holds Inv-loop μ-loop
+loop-holds c = let x = c .before .before .before .args in
+    (omega arith, walking-start (x .write) (recordsOf refcounts (now (x .counts))) (x .startblock) (x .startblock + x .blockcount) (now (x .new)) (now (x .free)) (omega (arith, c .before .before .before .pre .end)))
+
+mul-decode : tie.Need-mul-decode Inv-loop μ-loop
+mul-decode c = omega (arith, c .loop-test .taken)
+
+decode-requires : tie.Need-decode-requires Inv-loop μ-loop
+decode-requires c κs = omega (arith, c .loop-test .taken)
+
+good-requires : tie.Need-good-requires Inv-loop μ-loop
+good-requires c κs = search needs
+
+same-length : tie.Need-same-length Inv-loop μ-loop
+same-length c = c .before .before .before .before .loop .inv .1 .counts .kept
+
+same-length-2 : tie.Need-same-length-2 Inv-loop μ-loop
+same-length-2 c = c .before .before .before .before .loop .inv .1 .extents .kept
+
+returns : tie.Need-returns Inv-loop μ-loop
+returns c = let x = c .before .before .before .before .before .before .before .before .args in
+    let l = c .before .before .before .before .loop in
+    let d = c .before .before .decode in
+    let b = now (x .counts) in
+    told-order (x .write) (recordsOf refcounts b) (x .startblock) (x .blockcount) (now (x .new)) (now (x .free)) (c .before .before .before .before .before .before .before .before .pre) _ _
+    (l .inv .1 .order ∙ order-bad refcounts good follows b (l .i) (l .w .prev) (d .result) (c .before .before .before .loop-test .taken) (d .ensures) (sym (c .before .good2 .ensures) ∙ not-true _ (c .if1 .taken)))
+
+follows-requires : tie.Need-follows-requires Inv-loop μ-loop
+follows-requires c κs = search needs
+
+same-length-3 : tie.Need-same-length-3 Inv-loop μ-loop
+same-length-3 c = c .before .before .before .before .before .before .before .loop .inv .1 .counts .kept
+
+same-length-4 : tie.Need-same-length-4 Inv-loop μ-loop
+same-length-4 c = c .before .before .before .before .before .before .before .loop .inv .1 .extents .kept
+
+returns-2 : tie.Need-returns-2 Inv-loop μ-loop
+returns-2 c = let x = c .before .before .before .before .before .before .before .before .before .before .before .args in
+    let l = c .before .before .before .before .before .before .before .loop in
+    let d = c .before .before .before .before .before .decode in
+    let b = now (x .counts) in
+    told-order (x .write) (recordsOf refcounts b) (x .startblock) (x .blockcount) (now (x .new)) (now (x .free)) (c .before .before .before .before .before .before .before .before .before .before .before .pre) _ _
+    (l .inv .1 .order ∙ order-low refcounts good follows b (l .i) (l .w .prev) (d .result) (c .before .before .before .before .before .before .loop-test .taken) (d .ensures)
+    (sym (c .before .before .before .before .good2 .ensures) ∙ not-false _ (c .before .before .before .if1 .left)) (sym (c .before .follows .ensures) ∙ not-true _ (c .if2 .taken)))
+
+step-requires : tie.Need-step-requires Inv-loop μ-loop
+step-requires c κs = let x = c .before .before .before .before .before .before .before .before .before .before .before .before .before .args in
+    let l = c .before .before .before .before .before .before .before .before .before .loop in
+    let d = c .before .before .before .before .before .before .before .decode in
+    let b = now (x .counts) in
+    let all = recordsOf refcounts b in
+    let bytes : IsBytes b = λ i. c .before .before .before .before .before .before .before .before .before .before .before .before .shared-slice-known .given i .fits in
+    let inside = c .before .before .before .before .before .before .before .before .loop-test .taken in
+    let fit = small b (l .i) (d .result) inside (d .ensures) bytes in
+    step-asks (x .write) all (x .startblock) (x .startblock + x .blockcount) (now (x .new)) (now (x .free)) (l .new) (l .free) (l .w)
+    (rooms-of (x .write) all (x .startblock) (x .blockcount) (now (x .new)) (now (x .free)) (c .before .before .before .before .before .before .before .before .before .before .before .before .before .pre) (storable b bytes))
+    (d .result) (drop (l .i) all) (drop (l .i + 1) all) (next b (l .i) (d .result) inside (d .ensures)) (l .inv .1) (fit .0) (fit .1)
+    (sym (c .before .before .before .before .before .before .good2 .ensures) ∙ not-false _ (c .before .before .before .before .before .if1 .left)) (sym (c .before .before .before .follows .ensures) ∙ not-false _ (c .before .before .if2 .left))
+
+add-i : tie.Need-add-i Inv-loop μ-loop
+add-i c = omega (arith, c .before .before .before .before .before .before .before .before .before .before .before .before .before .loop-test .taken, c .before .before .before .before .before .before .before .before .before .before .before .before .before .before .before .before .before .before .good .0 .0)
+
+loop-less : tie.Need-loop-less Inv-loop μ-loop
+loop-less c = omega (arith, c .before .before .before .before .before .before .before .before .before .before .before .before .before .loop-test .taken)
+
+loop-again : tie.Need-loop-again Inv-loop μ-loop
+loop-again c = let x = c .before .before .before .before .before .before .before .before .before .before .before .before .before .before .before .before .before .before .args in
+    let l = c .before .before .before .before .before .before .before .before .before .before .before .before .before .before .loop in
+    let d = c .before .before .before .before .before .before .before .before .before .before .before .before .decode in
+    let k = c .before .before .before .before .step in
+    let b = now (x .counts) in
+    let all = recordsOf refcounts b in
+    let bytes : IsBytes b = λ i. c .before .before .before .before .before .before .before .before .before .before .before .before .before .before .before .before .before .shared-slice-known .given i .fits in
+    let inside = c .before .before .before .before .before .before .before .before .before .before .before .before .before .loop-test .taken in
+    let fit = small b (l .i) (d .result) inside (d .ensures) bytes in (
+      omega (arith, inside),
+      walking-step (x .write) all (x .startblock) (x .startblock + x .blockcount) (now (x .new)) (now (x .free)) (l .new) (l .free) (l .w)
+          (rooms-of (x .write) all (x .startblock) (x .blockcount) (now (x .new)) (now (x .free)) (c .before .before .before .before .before .before .before .before .before .before .before .before .before .before .before .before .before .before .pre) (storable b bytes))
+          (d .result) (drop (l .i) all) (drop (l .i + 1) all) (next b (l .i) (d .result) inside (d .ensures)) (l .inv .1) (fit .0) (fit .1)
+          (sym (c .before .before .before .before .before .before .before .before .before .before .before .good2 .ensures) ∙ not-false _ (c .before .before .before .before .before .before .before .before .before .before .if1 .left)) (sym (c .before .before .before .before .before .before .before .before .follows .ensures) ∙ not-false _ (c .before .before .before .before .before .before .before .if2 .left))
+          (k .result) _ _ (k .kept .1 .1 .1 .1 .0) (k .kept .1 .1 .1 .1 .1 .0) (k .ensures),
+    )
+
+same-length-5 : tie.Need-same-length-5 Inv-loop μ-loop
+same-length-5 c = c .before .before .loop .inv .1 .counts .kept
+
+same-length-6 : tie.Need-same-length-6 Inv-loop μ-loop
+same-length-6 c = c .before .before .loop .inv .1 .extents .kept
+
+returns-3 : tie.Need-returns-3 Inv-loop μ-loop
+returns-3 c = let x = c .before .before .before .before .before .before .args in
+    let l = c .before .before .loop in
+    let b = now (x .counts) in
+    let all = recordsOf refcounts b in
+    let bytes : IsBytes b = λ i. c .before .before .before .before .before .shared-slice-known .given i .fits in
+    let rooms = rooms-of (x .write) all (x .startblock) (x .blockcount) (now (x .new)) (now (x .free)) (c .before .before .before .before .before .before .pre) (storable b bytes) in
+    let none = no-more b (l .i) (c .before .loop-test .left) in
+    told-staging (x .write) all (x .startblock) (x .blockcount) (now (x .new)) (now (x .free)) (c .before .before .before .before .before .before .pre) _ _
+    (last-accepted (x .write) all (x .startblock) (x .startblock + x .blockcount) (now (x .new)) (now (x .free)) (l .new) (l .free) (l .w) rooms _ none (l .inv .1))
+    (last-clear (x .write) all (x .startblock) (x .startblock + x .blockcount) (now (x .new)) (now (x .free)) (l .new) (l .free) (l .w) rooms _ none (l .inv .1) _ (not-true _ (c .if3 .taken)))
+
+finish-requires : tie.Need-finish-requires Inv-loop μ-loop
+finish-requires c κs = let x = c .before .before .before .before .before .before .before .before .args in
+    let l = c .before .before .before .before .loop in
+    let b = now (x .counts) in
+    let all = recordsOf refcounts b in
+    let bytes : IsBytes b = λ i. c .before .before .before .before .before .before .before .shared-slice-known .given i .fits in
+    finish-asks (x .write) all (x .startblock) (x .startblock + x .blockcount) (now (x .new)) (now (x .free)) (l .new) (l .free) (l .w)
+    (rooms-of (x .write) all (x .startblock) (x .blockcount) (now (x .new)) (now (x .free)) (c .before .before .before .before .before .before .before .before .pre) (storable b bytes)) _ (no-more b (l .i) (c .before .before .before .loop-test .left)) (l .inv .1)
+
+put-run-requires : tie.Need-put-run-requires Inv-loop μ-loop
+put-run-requires c κs = let x = c .before .before .before .before .before .before .before .before .before .before .before .before .args in
+    let l = c .before .before .before .before .before .before .before .before .loop in
+    let b = now (x .counts) in
+    let all = recordsOf refcounts b in
+    let bytes : IsBytes b = λ i. c .before .before .before .before .before .before .before .before .before .before .before .shared-slice-known .given i .fits in
+    run-asks (x .write) all (x .startblock) (x .startblock + x .blockcount) (now (x .new)) (now (x .free)) (l .new) (l .free) (l .w)
+    (rooms-of (x .write) all (x .startblock) (x .blockcount) (now (x .new)) (now (x .free)) (c .before .before .before .before .before .before .before .before .before .before .before .before .pre) (storable b bytes)) _ (no-more b (l .i) (c .before .before .before .before .before .before .before .loop-test .left)) (l .inv .1)
+
+same-length-7 : tie.Need-same-length-7 Inv-loop μ-loop
+same-length-7 c = let l = c .before .before .before .before .before .before .before .before .before .before .before .loop in c .before .before .before .before .before .before .finish .kept .1 .0 ∙ l .inv .1 .counts .kept
+
+same-length-8 : tie.Need-same-length-8 Inv-loop μ-loop
+same-length-8 c = let l = c .before .before .before .before .before .before .before .before .before .before .before .loop in c .before .before .put-run .kept .0 ∙ l .inv .1 .extents .kept
+
+returns-4 : tie.Need-returns-4 Inv-loop μ-loop
+returns-4 c = let x = c .before .before .before .before .before .before .before .before .before .before .before .before .before .before .before .args in
+    let l = c .before .before .before .before .before .before .before .before .before .before .before .loop in
+    let b = now (x .counts) in
+    let all = recordsOf refcounts b in
+    let bytes : IsBytes b = λ i. c .before .before .before .before .before .before .before .before .before .before .before .before .before .before .shared-slice-known .given i .fits in
+    let stored = storable b bytes in
+    let rooms = rooms-of (x .write) all (x .startblock) (x .blockcount) (now (x .new)) (now (x .free)) (c .before .before .before .before .before .before .before .before .before .before .before .before .before .before .before .pre) stored in
+    let none = no-more b (l .i) (c .before .before .before .before .before .before .before .before .before .before .loop-test .left) in
+    let f = c .before .before .before .before .before .before .finish in
+    let g = c .before .before .put-run in
+    told-done (x .write) all (x .startblock) (x .blockcount) (now (x .new)) (now (x .free)) (c .before .before .before .before .before .before .before .before .before .before .before .before .before .before .before .pre) _ _
+    (last-accepted (x .write) all (x .startblock) (x .startblock + x .blockcount) (now (x .new)) (now (x .free)) (l .new) (l .free) (l .w) rooms _ none (l .inv .1))
+    (f .result) (g .result) stored
+    (last-clear (x .write) all (x .startblock) (x .startblock + x .blockcount) (now (x .new)) (now (x .free)) (l .new) (l .free) (l .w) rooms _ none (l .inv .1) _ (not-false _ (c .before .before .before .before .before .before .before .before .before .if3 .left)))
+    (finish-done (x .write) all (x .startblock) (x .startblock + x .blockcount) (now (x .new)) (now (x .free)) (l .new) (l .free) (l .w) rooms _ none (l .inv .1) (f .result) _ (f .ensures .0) (f .ensures .1))
+    (run-done (x .write) all (x .startblock) (x .startblock + x .blockcount) (now (x .new)) (now (x .free)) (l .new) (l .free) (l .w) rooms _ none (l .inv .1) (g .result) _ (g .ensures .0) (g .ensures .1))
+
+pub pass-spec : {M : Type 1} → statement M
+pass-spec =
+    tie.close
+    (tie.spec
+    Inv-loop
+    μ-loop
+    add-e
+    loop-holds
+    mul-decode
+    decode-requires
+    good-requires
+    same-length
+    same-length-2
+    returns
+    follows-requires
+    same-length-3
+    same-length-4
+    returns-2
+    step-requires
+    add-i
+    loop-less
+    loop-again
+    same-length-5
+    same-length-6
+    returns-3
+    finish-requires
+    put-run-requires
+    same-length-7
+    same-length-8
+    returns-4)

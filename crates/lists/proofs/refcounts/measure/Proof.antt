@@ -1,0 +1,54 @@
+-- `lists::refcounts::measure` meets its contract.
+-- Assumes nothing.
+use Prim.Native.Nat.{ℕ, _+_, _^_, _≤_}
+use mathlib.Core.Path.{_≡_, sym, ap, _∙_}
+use mathlib.Core.Bool.{true, false}
+use native.Mathlib.Omega.{arith}
+use denote.Ref.{now}
+use borrow.Author.Tests.{not-true, not-false}
+use Rattle.lists.specs.Extent.{goodExtent}
+use Rattle.lists.proofs.Staged.{good-end}
+use Rattle.lists.proofs.Releasing.{measure-length, measure-pass}
+use borrow.Author.Needs.{needs}
+use Rattle.lists.proofs.refcounts.measure.Statement.{statement}
+use Rattle.lists.proofs.refcounts.measure.Tie as tie
+
+good-extent-requires : tie.Need-good-extent-requires
+good-extent-requires c κs = search needs
+
+refuse-extent-requires : tie.Need-refuse-extent-requires
+refuse-extent-requires c κs = sym (c .before .good-extent .ensures) ∙ not-true _ (c .if1 .taken)
+
+returns : tie.Need-returns
+returns c = search needs
+
+returns-2 : tie.Need-returns-2
+returns-2 c = measure-length _ _ _ (c .if2 .taken)
+
+slice-aggregate-pass : tie.Need-slice-aggregate-pass
+slice-aggregate-pass c = search needs
+
+slice-aggregate-pass-2 : tie.Need-slice-aggregate-pass-2
+slice-aggregate-pass-2 c = search needs
+
+pass-requires : tie.Need-pass-requires
+pass-requires c κs = let g = c .before .before .before .before .good-extent in
+    record { end = good-end _ _ (sym (g .ensures) ∙ not-false _ (c .before .before .before .if1 .left)); writable = λ u. absurd (let y : _≡_ {A = ℕ} 0 1 = cc in omega arith) }
+
+returns-3 : tie.Need-returns-3
+returns-3 c = let x = c .before .before .before .before .before .before .before .before .before .args in
+    let g = c .before .before .before .before .before .before .before .good-extent in
+    measure-pass (now (x .counts)) (x .startblock) (x .blockcount) _ (c .before .before .before .before .before .if2 .left) (sym (g .ensures) ∙ not-false _ (c .before .before .before .before .before .before .if1 .left)) (c .before .before .pass .ensures .0)
+
+pub measure-spec : {M : Type 1} → statement M
+measure-spec =
+    tie.close
+    (tie.spec
+    good-extent-requires
+    refuse-extent-requires
+    returns
+    returns-2
+    slice-aggregate-pass
+    slice-aggregate-pass-2
+    pass-requires
+    returns-3)

@@ -1,0 +1,21 @@
+-- `lists::refcounts::write` meets its contract.
+-- Assumes nothing.
+use mathlib.Core.Path.{refl}
+use borrow.Author.Needs.{needs}
+use Rattle.lists.proofs.refcounts.write.Statement.{statement}
+use Rattle.lists.proofs.refcounts.write.Tie as tie
+
+pass-requires : tie.Need-pass-requires
+pass-requires c κs = let p = c .before .before .before .before .before .pre in record { end = p .end; writable = λ u. p }
+
+same-length : tie.Need-same-length
+same-length c = search needs
+
+same-length-2 : tie.Need-same-length-2
+same-length-2 c = search needs
+
+returns : tie.Need-returns
+returns c = let e = c .before .before .before .before .pass .ensures in (e .1 .0 refl, e .1 .1 refl)
+
+pub write-spec : {M : Type 1} → statement M
+write-spec = tie.close (tie.spec pass-requires same-length same-length-2 returns)

@@ -1,0 +1,14 @@
+-- `lists::search::alike` meets its contract.
+-- Assumes nothing.
+use Rattle.lists.proofs.Joining.{alike-owner, alike-flags}
+use Rattle.lists.proofs.search.alike.Statement.{statement}
+use Rattle.lists.proofs.search.alike.Tie as tie
+
+returns : tie.Need-returns
+returns c = alike-owner (c .before .before .before .args .r) (c .before .before .before .args .s) (c .if1 .taken)
+
+returns-2 : tie.Need-returns-2
+returns-2 c = alike-flags (c .before .before .before .before .before .args .r) (c .before .before .before .before .before .args .s) (c .before .before .if1 .left)
+
+pub alike-spec : {M : Type 1} → statement M
+alike-spec = tie.close (tie.spec returns returns-2)

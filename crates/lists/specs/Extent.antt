@@ -1,0 +1,32 @@
+-- Extents: a start and a count of blocks. An extent lies over the blocks start to start + count - 1.
+-- Assumes nothing.
+use Prim.Native.Nat.{ℕ, zero, suc, _+_, _^_}
+use mathlib.Core.Bool.{Bool, cond, _&&_}
+use mathlib.Core.List.{List, [], _∷_}
+use lib.Dec.{ltb, leb, eqb}
+use Rattle.codec.specs.declared.free_extent.FreeExtent.{FreeExtent}
+
+-- does the extent lie over block b?
+unfoldable pub over : ℕ → ℕ → ℕ → Bool
+over start count b = leb start b && ltb b (start + count)
+
+-- n at the blocks of the extent, and 0 elsewhere
+unfoldable pub within : ℕ → ℕ → ℕ → ℕ → ℕ
+unfolding over
+within start count n b = cond (over start count b) n 0
+
+-- 22 by start and count: a count above 0, and an end at most 2,147,483,648
+unfoldable pub goodExtent : ℕ → ℕ → Bool
+goodExtent start count = ltb 0 count && leb (start + count) (2 ^ 31)
+
+-- block b in front of the runs that begin after it
+unfoldable pub grow : ℕ → List FreeExtent → List FreeExtent
+grow b [] = record { startblock = b; blockcount = 1 } ∷ []
+grow b (f ∷ fs) =
+    cond (eqb (f .startblock) (suc b)) (record { startblock = b; blockcount = suc (f .blockcount) } ∷ fs) (record { startblock = b; blockcount = 1 } ∷ f ∷ fs)
+
+-- the longest runs of blocks that pass the test, among n blocks from b, ascending
+unfoldable pub runs : (ℕ → Bool) → ℕ → ℕ → List FreeExtent
+unfolding grow
+runs p b zero = []
+runs p b (suc n) = cond (p b) (grow b (runs p (suc b) n)) (runs p (suc b) n)

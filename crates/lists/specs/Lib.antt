@@ -1,0 +1,9 @@
+pub mod Extent
+pub mod RmapEdits
+pub mod Holders
+pub mod Release
+pub mod Edits
+pub mod Answer
+pub mod RmapPlans
+pub mod Steps
+pub mod Passes

@@ -1,0 +1,73 @@
+-- Blocks let go: the edit of the shared counts, as a list of records, and the blocks that are free again.
+-- Assumes nothing.
+use Prim.Native.Nat.{ℕ, _+_, _-_, min, max}
+use mathlib.Core.Bool.{Bool, true, not, cond, _&&_}
+use mathlib.Core.List.{List, [], _∷_, _++_}
+use lib.Dec.{ltb, leb, eqb}
+use Rattle.codec.specs.Refcounts.{staging, block, end}
+use Rattle.codec.specs.declared.refcount.Refcount.{Refcount}
+use Rattle.codec.specs.declared.free_extent.FreeExtent.{FreeExtent}
+use Rattle.lists.specs.Extent.{within, runs}
+
+-- the owners of the shared records over block b; 0 where there is none. Staging is no shared count.
+unfoldable pub owners : List Refcount → ℕ → ℕ
+owners [] b = 0
+owners (r ∷ l) b = cond (staging r) 0 (within (r .startblock) (r .blockcount) (r .refcount) b) + owners l b
+
+-- 25: are the blocks from s up to e clear of staging records?
+unfoldable pub clear : ℕ → ℕ → List Refcount → Bool
+clear s e [] = true
+clear s e (r ∷ l) = not (staging r && (ltb (block r) e && ltb s (end r))) && clear s e l
+
+-- Below a record is on the line of starts as stored: the shared records lie below 2^31, the staging ones from there on, so the blocks of an
+-- extent below 2^31 are those of shared records alone.
+
+-- where a record stops on that line
+abbrev pub stop : Refcount → ℕ
+stop r = r .startblock + r .blockcount
+
+-- the places from a up to z with n owners; none where there is no place
+unfoldable pub piece : ℕ → ℕ → ℕ → List Refcount
+piece a z n = cond (ltb a z) (record { startblock = a; blockcount = z - a; refcount = n } ∷ []) []
+
+-- the same with one owner fewer: at 2 the record goes
+unfoldable pub middle : ℕ → ℕ → ℕ → List Refcount
+middle a z n = cond (leb n 2) [] (piece a z (n - 1))
+
+-- the place s, or the nearer end of the record r
+unfoldable pub clamp : Refcount → ℕ → ℕ
+clamp r s = max (r .startblock) (min s (stop r))
+
+-- r with one owner fewer from s up to e: what lies before that, that itself, and what lies after it
+unfoldable pub lowered : ℕ → ℕ → Refcount → List Refcount
+lowered s e r =
+    piece (r .startblock) (clamp r s) (r .refcount)
+    ++ (middle (clamp r s) (clamp r e) (r .refcount) ++ piece (clamp r e) (stop r) (r .refcount))
+
+unfoldable pub lowerAll : ℕ → ℕ → List Refcount → List Refcount
+lowerAll s e [] = []
+lowerAll s e (r ∷ l) = lowered s e r ++ lowerAll s e l
+
+-- does s begin where r stops, with as many owners? (A shared and a staging record never have as many.)
+unfoldable pub continues : Refcount → Refcount → Bool
+continues r s = eqb (stop r) (s .startblock) && eqb (r .refcount) (s .refcount)
+
+abbrev pub joined : Refcount → Refcount → Refcount
+joined r s = record { startblock = r .startblock; blockcount = r .blockcount + s .blockcount; refcount = r .refcount }
+
+-- all adjacent equals joined
+unfoldable pub joinFrom : Refcount → List Refcount → List Refcount
+joinFrom r [] = r ∷ []
+joinFrom r (s ∷ l) = cond (continues r s) (joinFrom (joined r s) l) (r ∷ joinFrom s l)
+
+unfoldable pub joinAll : List Refcount → List Refcount
+joinAll [] = []
+joinAll (r ∷ l) = joinFrom r l
+
+-- the counts after the blocks from s up to e are let go once
+abbrev pub release : ℕ → ℕ → List Refcount → List Refcount
+release s e l = joinAll (lowerAll s e l)
+
+-- the longest runs of the extent that no shared record covered before, ascending
+abbrev pub unshared : List Refcount → ℕ → ℕ → List FreeExtent
+unshared l start count = runs (λ b. eqb (owners l b) 0) start count

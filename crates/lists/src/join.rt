@@ -1,0 +1,149 @@
+// The counts with one owner fewer on an extent, adjacent equals joined, record by record.
+use codec::refcount::Refcount;
+use codec::refcount::encode;
+ghost use mathlib.Core.Path.{_≡_};
+ghost use mathlib.Core.Bool.{Bool, true, _&&_};
+ghost use lib.Dec.{ltb};
+ghost use Prim.Native.Nat.{ℕ, _+_, _<_, _≤_, _^_, min, max};
+ghost use lib.ListN.{length};
+ghost use Rattle.codec.specs.Records.{Kind, bytesOf, refcounts};
+ghost use Rattle.lists.specs.Release.{stop, lowered};
+ghost use Rattle.lists.specs.Passes.{putIf, pending, goesOn, fewer, share, Lies, Fits, Room, Cut, Pushed};
+
+// The record that waits for its successor, none if its count is 0; `at` is the place behind the finished ones.
+pub struct Joiner {
+    pub start: u32,
+    pub count: u32,
+    pub owners: u32,
+    pub at: usize,
+}
+
+// Finishes the record that waits, and says the place behind it. With `write` it is put into `new`.
+pub fn finish(j: Joiner, new: &mut [u8], write: bool) -> usize
+    requires { ⌜ Fits j ⌝ }
+    requires { ⌜ Room write j (length (now new)) ⌝ }
+    ensures { λ r. ⌜ r ≡ j .at + length (bytesOf refcounts (pending j)) ⌝ }
+    ensures { λ _. ⌜ now (new .exit) ≡ putIf write (now (new .entry)) (j .at) (bytesOf refcounts (pending j)) ⌝ }
+{
+    let at = j.at;
+    if j.count == 0 {
+        return at;
+    }
+    if write {
+        let last = Refcount {
+            startblock: j.start,
+            blockcount: j.count,
+            refcount: j.owners,
+        };
+        encode(new, at, last);
+        return at + 12;
+    }
+    at + 12
+}
+
+// Do n owners from place `a` on join the record that waits?
+fn goes_on(j: Joiner, a: u64, n: u64) -> bool
+    requires { ⌜ Fits j ⌝ }
+    ensures { λ r. ⌜ r ≡ goesOn j a n ⌝ }
+{
+    if j.count == 0 {
+        return false;
+    }
+    if j.start as u64 + j.count as u64 == a {
+        return j.owners as u64 == n;
+    }
+    false
+}
+
+// The places from `a` up to `z` with n owners, if there are any: they join the record that waits, or finish it and wait.
+fn push(j: Joiner, a: u64, z: u64, n: u64, new: &mut [u8], write: bool) -> Joiner
+    requires { ⌜ Lies a z n ⌝ }
+    requires { ⌜ (a ≤ z) × (j .start + j .count ≤ a) ⌝ }
+    requires { ⌜ Fits j ⌝ }
+    requires { ⌜ Room write j (length (now new)) ⌝ }
+    ensures { λ k. ⌜ Pushed write j (now (new .entry)) (share a z n) z k (now (new .exit)) ⌝ }
+{
+    if z <= a {
+        return j;
+    }
+    if n == 0 {
+        return j;
+    }
+    if goes_on(j, a, n) {
+        return Joiner {
+            start: j.start,
+            count: j.count + (z - a) as u32,
+            owners: n as u32,
+            at: j.at,
+        };
+    }
+    let at = finish(j, new, write);
+    Joiner {
+        start: a as u32,
+        count: (z - a) as u32,
+        owners: n as u32,
+        at: at,
+    }
+}
+
+// One owner fewer; at 2 none is left that a record tells of.
+fn fewer(n: u64) -> u64
+    ensures { λ r. ⌜ r ≡ fewer n ⌝ }
+{
+    if n <= 2 {
+        return 0;
+    }
+    n - 1
+}
+
+fn clamp(x: u64, low: u64, high: u64) -> u64
+    requires { ⌜ low ≤ high ⌝ }
+    ensures { λ r. ⌜ r ≡ max low (min x high) ⌝ }
+{
+    if x <= low {
+        return low;
+    }
+    if high <= x {
+        return high;
+    }
+    x
+}
+
+// Does the record from `start` up to `end` meet the places from `s` up to `e`?
+fn meets(start: u64, end: u64, s: u64, e: u64) -> bool
+    ensures { λ t. ⌜ t ≡ (ltb s end && ltb start e) ⌝ }
+{
+    if end <= s {
+        return false;
+    }
+    start < e
+}
+
+// A record with one owner fewer from `s` up to `e`: what lies before that, that itself, and what lies after it.
+fn cut(j: Joiner, r: Refcount, s: u64, e: u64, new: &mut [u8], write: bool) -> Joiner
+    requires { ⌜ Cut write s e j r (length (now new)) ⌝ }
+    ensures { λ k. ⌜ Pushed write j (now (new .entry)) (lowered s e r) (stop r) k (now (new .exit)) ⌝ }
+{
+    let start = r.startblock as u64;
+    let owners = r.refcount as u64;
+    let end = start + r.blockcount as u64;
+    let a = clamp(s, start, end);
+    let z = clamp(e, start, end);
+    let less = fewer(owners);
+    let front = push(j, start, a, owners, new, write);
+    let middle = push(front, a, z, less, new, write);
+    push(middle, z, end, owners, new, write)
+}
+
+// The next record: one that the extent does not meet stays whole.
+pub fn lower(j: Joiner, r: Refcount, s: u64, e: u64, new: &mut [u8], write: bool) -> Joiner
+    requires { ⌜ Cut write s e j r (length (now new)) ⌝ }
+    ensures { λ k. ⌜ Pushed write j (now (new .entry)) (lowered s e r) (stop r) k (now (new .exit)) ⌝ }
+{
+    let start = r.startblock as u64;
+    let end = start + r.blockcount as u64;
+    if meets(start, end, s, e) {
+        return cut(j, r, s, e, new, write);
+    }
+    push(j, start, end, r.refcount as u64, new, write)
+}

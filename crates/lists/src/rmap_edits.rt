@@ -1,0 +1,327 @@
+// Extents taken and given up in a reverse map: planned by value, then written. The old list is read, the new one goes to another buffer.
+use crate::EditRefusal;
+use crate::Edited;
+use crate::rmap_plans::Asked;
+use crate::rmap_plans::Edit;
+use crate::rmap_plans::Joined;
+use crate::rmap_plans::Part;
+use crate::rmap_plans::Plan;
+use crate::rmap_plans::Planned;
+use crate::rmap_plans::Scan;
+use crate::search::asked;
+use crate::search::continues;
+use crate::search::seat;
+use crate::write::write_plan;
+use codec::rmap::Rmap;
+use codec::rmap::decode;
+use codec::rmap::exempt;
+ghost use mathlib.Core.Path.{_≡_};
+ghost use mathlib.Core.Bool.{true, cond};
+ghost use Prim.Native.Nat.{_+_, _/_, _^_, _≤_, _<_};
+ghost use lib.Dec.{ltb};
+ghost use lib.ListN.{length};
+ghost use Rattle.codec.specs.Question.{done};
+ghost use Rattle.codec.specs.Records.{recordsOf, rmaps};
+ghost use Rattle.codec.specs.Rmaps.{end, exempt, good, accepted};
+ghost use Rattle.lists.specs.declared.rmap_plans.Edit.the-variants.{Insert, InsertShared, Remove};
+ghost use Rattle.lists.specs.RmapEdits.{joined, clear, later};
+ghost use Rattle.lists.specs.Edits.{written, insertOutcome, insertSharedOutcome, removeOutcome};
+ghost use Rattle.lists.specs.Answer.{editedOutcome, lengthOf};
+ghost use Rattle.lists.specs.RmapPlans.{editOutcome, indexWhere, Finds, TakeGood, joinAt, previous, partsOf, partCount, PartsGood, plannedOutcome, PlannedGood, PlanIs};
+
+// The bytes of a record.
+const RECORD: usize = 24;
+
+fn pick(t: bool, a: usize, b: usize) -> usize
+    ensures { λ r. ⌜ r ≡ cond t a b ⌝ }
+{
+    if t {
+        return a;
+    }
+    b
+}
+
+fn choose(t: bool, r: Rmap, s: Rmap) -> Rmap
+    ensures { λ k. ⌜ k ≡ cond t r s ⌝ }
+{
+    if t {
+        return r;
+    }
+    s
+}
+
+// The index before `at`, and n where there is none.
+fn previous(at: usize, n: usize) -> usize
+    ensures { λ r. ⌜ r ≡ previous at n ⌝ }
+{
+    if at == 0 {
+        return n;
+    }
+    at - 1
+}
+
+// Two records that continue one another as one: the start and the whole offset of the lower.
+fn join(r: Rmap, s: Rmap) -> Rmap
+    requires { ⌜ r .blockcount + s .blockcount < 2 ^ 32 ⌝ }
+    ensures { λ k. ⌜ k ≡ joined r s ⌝ }
+{
+    Rmap {
+        startblock: r.startblock,
+        blockcount: r.blockcount + s.blockcount,
+        owner: r.owner,
+        offset: r.offset,
+    }
+}
+
+// x joined to the record i, behind it or before it, where one continues the other.
+fn join_at(old: &[u8], behind: bool, i: usize, x: Rmap) -> Joined
+    requires { ⌜ (accepted (recordsOf rmaps (now old)) ≡ true) × (end x ≤ 2 ^ 31) ⌝ }
+    ensures { λ j. ⌜ j ≡ joinAt behind (recordsOf rmaps (now (old .entry))) i x ⌝ }
+{
+    if old.len() / RECORD <= i {
+        return Joined {
+            rmap: x,
+            joins: false,
+        };
+    }
+    let r = decode(old, i * RECORD);
+    let low = choose(behind, r, x);
+    let high = choose(behind, x, r);
+    if !continues(low, high) {
+        return Joined {
+            rmap: x,
+            joins: false,
+        };
+    }
+    let k = join(low, high);
+    Joined {
+        rmap: k,
+        joins: true,
+    }
+}
+
+// Does the last record that starts at or before x, the one before `at`, end by its start?
+fn clear(old: &[u8], at: usize, x: Rmap) -> bool
+    requires { ⌜ at ≡ indexWhere (λ r. ltb (x .startblock) (r .startblock)) (recordsOf rmaps (now old)) ⌝ }
+    ensures { λ t. ⌜ t ≡ clear x (recordsOf rmaps (now (old .entry))) ⌝ }
+{
+    if at == 0 {
+        return true;
+    }
+    let r = decode(old, (at - 1) * RECORD);
+    r.startblock as u64 + r.blockcount as u64 <= x.startblock as u64
+}
+
+// How many records a part has.
+fn part_count(p: Part) -> usize
+    requires { ⌜ (p .from ≤ p .to) × (p .to < 2 ^ 63) ⌝ }
+    ensures { λ r. ⌜ r ≡ partCount p ⌝ }
+{
+    let run = p.to - p.from;
+    if p.some {
+        return 1 + run;
+    }
+    run
+}
+
+// A new list planned from its parts, with its size.
+fn ready(old: &[u8], front: usize, first: Part, second: Part, rest: usize) -> Planned
+    requires { ⌜ PartsGood (length (now old) / 24) front first second rest ⌝ }
+    ensures { λ r. ⌜ (plannedOutcome (recordsOf rmaps (now (old .entry))) r ≡ done (partsOf (recordsOf rmaps (now (old .entry))) front first second rest)) × PlannedGood (recordsOf rmaps (now (old .entry))) r ⌝ }
+{
+    let n = old.len() / RECORD;
+    let count = front + part_count(first) + part_count(second) + (n - rest);
+    Planned::Ready(Plan {
+        front,
+        first,
+        second,
+        rest,
+        size: count * RECORD,
+    })
+}
+
+// Question 23 of `insert`, and its plan.
+fn place_insert(old: &[u8], x: Rmap, s: Scan) -> Planned
+    requires { ⌜ TakeGood (now old) x × Finds Insert x (recordsOf rmaps (now old)) s ⌝ }
+    ensures { λ p. ⌜ PlanIs Insert (now (old .entry)) x p ⌝ }
+{
+    let at = s.first;
+    if !clear(old, at, x) {
+        return Planned::Refused(EditRefusal::Overlap);
+    }
+    let h = join_at(old, false, at, x);
+    let y = h.rmap;
+    let i = previous(at, old.len() / RECORD);
+    let l = join_at(old, true, i, y);
+    let z = l.rmap;
+    let front = pick(l.joins, i, at);
+    let rest = pick(h.joins, at + 1, at);
+    let first = Part {
+        some: true,
+        rmap: z,
+        from: at,
+        to: at,
+    };
+    let second = Part {
+        some: false,
+        rmap: z,
+        from: at,
+        to: at,
+    };
+    ready(old, front, first, second, rest)
+}
+
+// Question 23 of `insert_shared`, and its plan.
+fn place_shared(old: &[u8], x: Rmap, s: Scan) -> Planned
+    requires { ⌜ TakeGood (now old) x × Finds InsertShared x (recordsOf rmaps (now old)) s ⌝ }
+    ensures { λ p. ⌜ PlanIs InsertShared (now (old .entry)) x p ⌝ }
+{
+    if s.first < old.len() / RECORD {
+        return Planned::Refused(EditRefusal::Overlap);
+    }
+    let i = s.second;
+    let j = s.third;
+    let l = join_at(old, true, i, x);
+    let y = l.rmap;
+    let h = join_at(old, false, j, y);
+    let z = h.rmap;
+    let place = seat(old, z);
+    let low = pick(l.joins, i, place);
+    let mid = pick(l.joins, i + 1, place);
+    let rest = pick(h.joins, j + 1, j);
+    let first = Part {
+        some: true,
+        rmap: z,
+        from: place,
+        to: low,
+    };
+    let second = Part {
+        some: false,
+        rmap: z,
+        from: mid,
+        to: j,
+    };
+    ready(old, place, first, second, rest)
+}
+
+// The offset of w, n blocks on.
+fn moved(w: Rmap, n: u64) -> u64
+    requires { ⌜ (good w ≡ true) × (n ≤ w .blockcount) ⌝ }
+    ensures { λ r. ⌜ r ≡ cond (exempt w) (w .offset) (w .offset + n) ⌝ }
+{
+    if exempt(w) {
+        return w.offset;
+    }
+    w.offset + n
+}
+
+// What is left of w after x.
+fn later(x: Rmap, w: Rmap) -> Rmap
+    requires { ⌜ (good w ≡ true) × (w .startblock ≤ x .startblock) × (end x ≤ end w) ⌝ }
+    ensures { λ r. ⌜ r ≡ later x w ⌝ }
+{
+    let stop = x.startblock as u64 + x.blockcount as u64;
+    let whole = w.startblock as u64 + w.blockcount as u64;
+    let offset = moved(w, stop - w.startblock as u64);
+    Rmap {
+        startblock: stop as u32,
+        blockcount: (whole - stop) as u32,
+        owner: w.owner,
+        offset,
+    }
+}
+
+// Question 24 of `remove`, and its plan.
+fn place_remove(old: &[u8], x: Rmap, s: Scan) -> Planned
+    requires { ⌜ TakeGood (now old) x × Finds Remove x (recordsOf rmaps (now old)) s ⌝ }
+    ensures { λ p. ⌜ PlanIs Remove (now (old .entry)) x p ⌝ }
+{
+    let n = old.len() / RECORD;
+    let i = s.first;
+    let j = s.second;
+    let at = pick(i < n, i, j);
+    if n <= at {
+        return Planned::Refused(EditRefusal::Missing);
+    }
+    let w = decode(old, at * RECORD);
+    let k = later(x, w);
+    let place = seat(old, k);
+    let f = Rmap {
+        startblock: w.startblock,
+        blockcount: x.startblock - w.startblock,
+        owner: w.owner,
+        offset: w.offset,
+    };
+    let first = Part {
+        some: w.startblock < x.startblock,
+        rmap: f,
+        from: at + 1,
+        to: place,
+    };
+    let second = Part {
+        some: x.startblock as u64 + (x.blockcount as u64)
+            < w.startblock as u64 + w.blockcount as u64,
+        rmap: k,
+        from: place,
+        to: place,
+    };
+    ready(old, at, first, second, place)
+}
+
+// An edit planned: the questions 19, 20, 22, and 23 or 24, then the new list. Nothing is written.
+pub fn plan(old: &[u8], e: Edit, x: Rmap) -> Planned
+    ensures { λ p. ⌜ PlanIs e (now (old .entry)) x p ⌝ }
+{
+    let found = asked(old, e, x);
+    match found {
+        Asked::Refused(q) => Planned::Refused(q),
+        Asked::Found(s) => match e {
+            Edit::Insert => place_insert(old, x, s),
+            Edit::InsertShared => place_shared(old, x, s),
+            Edit::Remove => place_remove(old, x, s),
+        },
+    }
+}
+
+// An edit planned, 26 asked, and the new list written; a refusal writes nothing.
+fn edit(old: &[u8], e: Edit, x: Rmap, new: &mut [u8]) -> Edited
+    ensures said { λ r. ⌜ editedOutcome r ≡ lengthOf rmaps (editOutcome e (now (old .entry)) x (length (now (new .entry)))) ⌝ }
+    ensures wrote { λ _. ⌜ now (new .exit) ≡ written rmaps (now (new .entry)) (editOutcome e (now (old .entry)) x (length (now (new .entry)))) ⌝ }
+{
+    let planned = plan(old, e, x);
+    match planned {
+        Planned::Refused(q) => Edited::Refused(q),
+        Planned::Ready(p) => {
+            let size = p.size;
+            if new.len() < size {
+                return Edited::Refused(EditRefusal::Room);
+            }
+            write_plan(old, p, new);
+            Edited::Done(size)
+        }
+    }
+}
+
+// Takes an extent that nobody holds: questions 19, 20, 22, 23 and 26, then the new list, of which the bytes are said.
+pub fn insert(old: &[u8], x: Rmap, new: &mut [u8]) -> Edited
+    ensures said { λ r. ⌜ editedOutcome r ≡ lengthOf rmaps (insertOutcome (now (old .entry)) x (length (now (new .entry)))) ⌝ }
+    ensures wrote { λ _. ⌜ now (new .exit) ≡ written rmaps (now (new .entry)) (insertOutcome (now (old .entry)) x (length (now (new .entry)))) ⌝ }
+{
+    edit(old, Edit::Insert, x, new)
+}
+
+// The same where mappings may share blocks.
+pub fn insert_shared(old: &[u8], x: Rmap, new: &mut [u8]) -> Edited
+    ensures said { λ r. ⌜ editedOutcome r ≡ lengthOf rmaps (insertSharedOutcome (now (old .entry)) x (length (now (new .entry)))) ⌝ }
+    ensures wrote { λ _. ⌜ now (new .exit) ≡ written rmaps (now (new .entry)) (insertSharedOutcome (now (old .entry)) x (length (now (new .entry)))) ⌝ }
+{
+    edit(old, Edit::InsertShared, x, new)
+}
+
+// Gives an extent up: questions 19, 20, 22, 24 and 26, then the new list, of which the bytes are said.
+pub fn remove(old: &[u8], x: Rmap, new: &mut [u8]) -> Edited
+    ensures said { λ r. ⌜ editedOutcome r ≡ lengthOf rmaps (removeOutcome (now (old .entry)) x (length (now (new .entry)))) ⌝ }
+    ensures wrote { λ _. ⌜ now (new .exit) ≡ written rmaps (now (new .entry)) (removeOutcome (now (old .entry)) x (length (now (new .entry)))) ⌝ }
+{
+    edit(old, Edit::Remove, x, new)
+}

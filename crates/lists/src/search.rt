@@ -1,0 +1,224 @@
+// Searches of a reverse map: two records beside each other, one pass over a list that asks 20 and finds what an edit needs, and the place of a record.
+use crate::EditRefusal;
+use crate::rmap_plans::Asked;
+use crate::rmap_plans::Edit;
+use crate::rmap_plans::Hits;
+use crate::rmap_plans::Scan;
+use codec::check::ListRefusal;
+use codec::rmap::Rmap;
+use codec::rmap::comes_before;
+use codec::rmap::decode;
+use codec::rmap::exempt;
+use codec::rmap::good;
+ghost use mathlib.Core.Path.{_≡_};
+ghost use mathlib.Core.Bool.{true, cond, _&&_};
+ghost use lib.Dec.{ltb, eqb};
+ghost use Rattle.codec.specs.Records.{recordsOf, rmaps};
+ghost use Rattle.codec.specs.Rmaps.{flags, accepted};
+ghost use Rattle.lists.specs.RmapEdits.{continues, clash, contains, linesUp};
+ghost use Rattle.lists.specs.RmapPlans.{alike, tests, seat, ScanIs, AskedIs};
+
+// The bytes of a record.
+const RECORD: usize = 24;
+
+// The first owner that is reserved, and one more than the largest file offset.
+const RESERVED: u64 = 0x8000_0000_0000_0000;
+
+const OFF_LIMIT: u64 = 0x40_0000_0000_0000;
+
+// Have the records the same owner and flags?
+fn alike(r: Rmap, s: Rmap) -> bool
+    ensures { λ t. ⌜ t ≡ alike r s ⌝ }
+{
+    if r.owner != s.owner {
+        return false;
+    }
+    r.offset / OFF_LIMIT == s.offset / OFF_LIMIT
+}
+
+// Does s continue r?
+pub(crate) fn continues(r: Rmap, s: Rmap) -> bool
+    ensures { λ t. ⌜ t ≡ continues r s ⌝ }
+{
+    if !alike(r, s) {
+        return false;
+    }
+    if r.startblock as u64 + r.blockcount as u64 != s.startblock as u64 {
+        return false;
+    }
+    if RESERVED <= r.owner {
+        return true;
+    }
+    r.offset % OFF_LIMIT + r.blockcount as u64 == s.offset % OFF_LIMIT
+}
+
+// Does the file offset of r line up with that of x?
+fn lines_up(x: Rmap, r: Rmap) -> bool
+    ensures { λ t. ⌜ t ≡ linesUp x r ⌝ }
+{
+    if exempt(r) {
+        return true;
+    }
+    r.offset % OFF_LIMIT + x.startblock as u64 == x.offset % OFF_LIMIT + r.startblock as u64
+}
+
+// Do x and r overlap as no two shared mappings may?
+fn clash(x: Rmap, r: Rmap) -> bool
+    ensures { λ t. ⌜ t ≡ clash x r ⌝ }
+{
+    if x.startblock as u64 + x.blockcount as u64 <= r.startblock as u64 {
+        return false;
+    }
+    if r.startblock as u64 + r.blockcount as u64 <= x.startblock as u64 {
+        return false;
+    }
+    if exempt(x) {
+        return true;
+    }
+    if alike(r, x) {
+        return lines_up(x, r);
+    }
+    exempt(r)
+}
+
+// Is r of the owner and flags of x, and does it contain x?
+fn contains(x: Rmap, r: Rmap) -> bool
+    ensures { λ t. ⌜ t ≡ contains x r ⌝ }
+{
+    if !alike(r, x) {
+        return false;
+    }
+    if x.startblock < r.startblock {
+        return false;
+    }
+    x.startblock as u64 + x.blockcount as u64 <= r.startblock as u64 + r.blockcount as u64
+}
+
+// What r passes of the searches of an edit.
+fn hits(e: Edit, x: Rmap, r: Rmap) -> Hits
+    ensures { λ h. ⌜ h ≡ tests e x r ⌝ }
+{
+    match e {
+        Edit::Insert => Hits {
+            first: x.startblock < r.startblock,
+            second: false,
+            third: false,
+        },
+        Edit::InsertShared => Hits {
+            first: clash(x, r),
+            second: continues(r, x),
+            third: continues(x, r),
+        },
+        Edit::Remove => {
+            if !contains(x, r) {
+                return Hits {
+                    first: false,
+                    second: false,
+                    third: false,
+                };
+            }
+            Hits {
+                first: lines_up(x, r),
+                second: true,
+                third: false,
+            }
+        }
+    }
+}
+
+// What was found already, or the record i where it passes; n where nothing was found.
+fn note(found: usize, n: usize, i: usize, hit: bool) -> usize
+    ensures { λ r. ⌜ r ≡ cond (ltb found n) found (cond hit i n) ⌝ }
+{
+    if found < n {
+        return found;
+    }
+    if hit {
+        return i;
+    }
+    n
+}
+
+// Question 20, and what an edit searches for, in one pass.
+fn scan(list: &[u8], e: Edit, x: Rmap) -> Scan
+    ensures { λ s. ⌜ ScanIs e x (recordsOf rmaps (now (list .entry))) s ⌝ }
+{
+    let n = list.len() / RECORD;
+    let mut prev = Rmap {
+        startblock: 0,
+        blockcount: 0,
+        owner: 0,
+        offset: 0,
+    };
+    let mut first = n;
+    let mut second = n;
+    let mut third = n;
+    let mut i = 0;
+    while i < n {
+        let r = decode(list, i * RECORD);
+        if !good(r) {
+            return Scan {
+                ordered: false,
+                first: n,
+                second: n,
+                third: n,
+            };
+        }
+        if comes_before(r, prev) {
+            return Scan {
+                ordered: false,
+                first: n,
+                second: n,
+                third: n,
+            };
+        }
+        let h = hits(e, x, r);
+        first = note(first, n, i, h.first);
+        second = note(second, n, i, h.second);
+        third = note(third, n, i, h.third);
+        prev = r;
+        i += 1;
+    }
+    Scan {
+        ordered: true,
+        first,
+        second,
+        third,
+    }
+}
+
+// Questions 19, 20 and 22, and what the edit searches for.
+pub(crate) fn asked(list: &[u8], e: Edit, x: Rmap) -> Asked
+    ensures { λ r. ⌜ AskedIs e (now (list .entry)) x r ⌝ }
+{
+    if list.len() % RECORD != 0 {
+        return Asked::Refused(EditRefusal::List(ListRefusal::Length));
+    }
+    let s = scan(list, e, x);
+    if !s.ordered {
+        return Asked::Refused(EditRefusal::List(ListRefusal::RmapOrder));
+    }
+    if !good(x) {
+        return Asked::Refused(EditRefusal::Extent);
+    }
+    Asked::Found(s)
+}
+
+// The place of z in a list in order, searched for by halves.
+pub(crate) fn seat(list: &[u8], z: Rmap) -> usize
+    requires { ⌜ accepted (recordsOf rmaps (now list)) ≡ true ⌝ }
+    ensures { λ r. ⌜ r ≡ seat z (recordsOf rmaps (now (list .entry))) ⌝ }
+{
+    let mut low = 0;
+    let mut high = list.len() / RECORD;
+    while low < high {
+        let mid = low + (high - low) / 2;
+        let r = decode(list, mid * RECORD);
+        if comes_before(r, z) {
+            low = mid + 1;
+        } else {
+            high = mid;
+        }
+    }
+    low
+}
