@@ -1,0 +1,229 @@
+-- The history theorem: demand 3 of every list of takes and lets go.
+-- Assumes nothing.
+use Prim.Native.Nat.{ℕ, _+_, _<_}
+use mathlib.Core.Path.{_≡_, refl, ap, _∙_, subst}
+use mathlib.Core.List.{List, [], _∷_, _++_, append-assoc}
+use native.Mathlib.Omega.{arith}
+use lib.Dec.{ltb, eqb}
+use Rattle.codec.specs.Question.{Values, Outcome, done, refused, mapOutcome}
+use Rattle.codec.specs.Records.{recordsOf, bytesOf, AllStorable, RmapFits, rmaps, refcounts}
+use Rattle.codec.specs.declared.rmap.Rmap.{Rmap}
+use Rattle.codec.specs.declared.refcount.Refcount.{Refcount}
+use Rattle.blocks.specs.declared.kind.TreeKind.the-variants as kind
+use Rattle.codec.proofs.RecordLists.{recordsOf-bytesOf}
+use Rattle.codec.proofs.RecordKinds.{rmaps-lawful, refcounts-lawful}
+use Rattle.codec.proofs.ListBytes.{storable-recordsOf, isBytes-bytesOf, whole-bytesOf}
+use Rattle.lists.specs.Extent.{within, runs}
+use Rattle.lists.specs.Edits.{insertOutcome, insertSharedOutcome}
+use Rattle.lists.proofs.Cases.{split, tests}
+use Rattle.lists.proofs.Counts as C
+use Rattle.lists.proofs.Laws.{Taken, insert-law, insertShared-law}
+use Rattle.groups.specs.LetGo.{Gone, letGoOutcome}
+use Rattle.groups.specs.History.{Lists, Accepted, Agreeing, held, Change, take, takeShared, letGo, extent, Left, took, went, step, after, covered, taken, gone, run, takes, letsGo, At, Start, Claim}
+use Rattle.groups.proofs.Agreement.{agree-letGo, agree-take, unshared-unheld}
+use Rattle.groups.proofs.Letting.{letGo-law}
+use Rattle.groups.proofs.Returning.{returned}
+
+-- ---- from lists to lists
+
+-- τ is σ after changes by which t takes and g lets go covered each block
+pub record Kept (σ : Lists) (t g : ℕ → ℕ) (τ : Lists) : Type 0 where
+  pub accepted : Accepted τ
+  pub agree : Agreeing τ
+  pub sum : (b : ℕ) → held τ b + g b ≡ held σ b + t b
+
+kept-same : (σ : Lists) → Accepted σ → Agreeing σ → Kept σ (λ b. 0) (λ b. 0) σ
+kept-same σ h a = record { accepted = h; agree = a; sum = λ b. refl }
+
+kept-then : (σ τ ρ : Lists) (t g t′ g′ : ℕ → ℕ) → Kept σ t g τ → Kept τ t′ g′ ρ → Kept σ (λ b. t b + t′ b) (λ b. g b + g′ b) ρ
+kept-then σ τ ρ t g t′ g′ h k = record { accepted = k .accepted; agree = k .agree; sum = λ b. omega (arith, h .sum b, k .sum b) }
+
+-- the counts as facts
+counts-facts : (σ : Lists) → Accepted σ → C.Accepted (recordsOf refcounts (σ .counts))
+counts-facts σ h = C.accepted-facts (recordsOf refcounts (σ .counts)) (storable-recordsOf refcounts refcounts-lawful (σ .counts) (h .counts-bytes)) (h .counts-order)
+
+map-back : (m : List Rmap) → AllStorable rmaps m → recordsOf rmaps (bytesOf rmaps m) ≡ m
+map-back = recordsOf-bytesOf rmaps rmaps-lawful
+
+counts-back : (c : List Refcount) → AllStorable refcounts c → recordsOf refcounts (bytesOf refcounts c) ≡ c
+counts-back = recordsOf-bytesOf refcounts refcounts-lawful
+
+-- ---- a take, by any edit that adds one over the extent
+
+kept-take : (σ : Lists) (x : Rmap) (m : List Rmap) → Accepted σ → Agreeing σ → Taken x (recordsOf rmaps (σ .map)) m
+    → ((b : ℕ) → 0 < within (x .startblock) (x .blockcount) 1 b → held σ b ≡ 0)
+    → Kept σ (within (x .startblock) (x .blockcount) 1) (λ b. 0) (took σ m .lists)
+kept-take σ x m h a t f =
+    let q : recordsOf rmaps (bytesOf rmaps m) ≡ m = map-back m (t .stored) in
+    record {
+      accepted =
+          record {
+            map-bytes = isBytes-bytesOf rmaps rmaps-lawful m;
+            counts-bytes = h .counts-bytes;
+            map-whole = whole-bytesOf rmaps rmaps-lawful m;
+            map-order = rw q (t .accepted);
+            counts-whole = h .counts-whole;
+            counts-order = h .counts-order;
+          };
+      agree =
+          rw q
+          (agree-take (recordsOf rmaps (σ .map)) m (recordsOf refcounts (σ .counts)) (x .startblock) (x .blockcount) (counts-facts σ h) a (t .held) f);
+      sum = λ b. rw q (omega (arith, t .held b));
+    }
+
+-- ---- a let go
+
+kept-letGo : (σ : Lists) (x : Rmap) (room countsRoom freeRoom : ℕ) (g : Gone) → Accepted σ → Agreeing σ
+    → letGoOutcome (σ .map) (σ .counts) x room countsRoom freeRoom ≡ done g
+    → Kept σ (λ b. 0) (within (x .startblock) (x .blockcount) 1) (went g .lists)
+    × (g .free ≡ runs (λ b. eqb (held (went g .lists) b) 0) (x .startblock) (x .blockcount))
+kept-letGo σ x room countsRoom freeRoom g h a e =
+    let m : List Rmap = recordsOf rmaps (σ .map) in
+    let c : List Refcount = recordsOf refcounts (σ .counts) in
+    let w = letGo-law (σ .map) (σ .counts) x room countsRoom freeRoom g (h .map-bytes) (h .counts-bytes) e in
+    let p = w .map-after in
+    let l = w .counts-after in
+    let q : recordsOf rmaps (bytesOf rmaps (g .map)) ≡ g .map = map-back (g .map) (p .stored) in
+    let r : recordsOf refcounts (bytesOf refcounts (g .counts)) ≡ g .counts = counts-back (g .counts) (l .stored) in
+    let ok : C.Accepted c = counts-facts σ h in (
+      record {
+        accepted =
+            record {
+              map-bytes = isBytes-bytesOf rmaps rmaps-lawful (g .map);
+              counts-bytes = isBytes-bytesOf refcounts refcounts-lawful (g .counts);
+              map-whole = whole-bytesOf rmaps rmaps-lawful (g .map);
+              map-order = rw q (p .accepted);
+              counts-whole = whole-bytesOf refcounts refcounts-lawful (g .counts);
+              counts-order = rw r (l .accepted);
+            };
+        agree =
+            rw (q, r)
+            (agree-letGo m (g .map) c (x .startblock) (x .blockcount) ok a (g .counts)
+            (C.accepted-facts (g .counts) (l .stored) (l .accepted)) (l .owned) (p .held));
+        sum = λ b. rw q (omega (arith, p .held b));
+      },
+      rw q (w .free-is ∙ unshared-unheld m (g .map) c (x .startblock) (x .blockcount) ok a (p .held)),
+    )
+
+-- ---- one change
+
+-- what a call came to, under what is left of its result
+from-done : {A : Type 0} (f : A → Left) (o : Outcome A) (w : Left) → mapOutcome f o ≡ done w → (r : A) × (o ≡ done r) × (f r ≡ w)
+from-done f (done r) w e = (r, refl, cc)
+from-done f (refused n v) w e = absurd (never e)
+  where
+    never : refused n v ≡ done w → ⊥
+    never e = let z : _≡_ {A = ℕ} 0 1 = cc in omega arith
+
+-- a take of an extent, whatever it comes to
+took-kept : (σ : Lists) (x : Rmap) (o : Outcome (List Rmap)) → Accepted σ → Agreeing σ
+    → ((m : List Rmap) → o ≡ done m → Taken x (recordsOf rmaps (σ .map)) m)
+    → ((b : ℕ) → 0 < covered (mapOutcome (took σ) o) x b → held σ b ≡ 0)
+    → Kept σ (covered (mapOutcome (took σ) o) x) (λ b. 0) (after σ (mapOutcome (took σ) o))
+unfolding covered after
+took-kept σ x (done m) h a t f = kept-take σ x m h a (t m refl) f
+took-kept σ x (refused n v) h a t f = kept-same σ h a
+
+went-kept : (σ : Lists) (x : Rmap) (room countsRoom freeRoom : ℕ) (o : Outcome Gone) → Accepted σ → Agreeing σ
+    → letGoOutcome (σ .map) (σ .counts) x room countsRoom freeRoom ≡ o
+    → Kept σ (λ b. 0) (covered (mapOutcome went o) x) (after σ (mapOutcome went o))
+unfolding covered after
+went-kept σ x room countsRoom freeRoom (done g) h a e = kept-letGo σ x room countsRoom freeRoom g h a e .0
+went-kept σ x room countsRoom freeRoom (refused n v) h a e = kept-same σ h a
+
+pub kept-step : (σ : Lists) (c : Change) → Accepted σ → Agreeing σ → RmapFits (extent c) → ((b : ℕ) → 0 < taken c (step σ c) b → held σ b ≡ 0)
+    → Kept σ (taken c (step σ c)) (gone c (step σ c)) (after σ (step σ c))
+unfolding step taken gone
+kept-step σ (take x room) h a w f =
+    took-kept σ x (insertOutcome (σ .map) x room) h a (λ m e. insert-law (σ .map) x room m (h .map-bytes) w e) f
+kept-step σ (takeShared x room) h a w f =
+    took-kept σ x (insertSharedOutcome (σ .map) x room) h a (λ m e. insertShared-law (σ .map) x room m (h .map-bytes) w e) f
+kept-step σ (letGo x room countsRoom freeRoom) h a w f =
+    went-kept σ x room countsRoom freeRoom (letGoOutcome (σ .map) (σ .counts) x room countsRoom freeRoom) h a refl
+
+-- what an accepted let go offers
+step-offers : (σ : Lists) (x : Rmap) (room countsRoom freeRoom : ℕ) → Accepted σ → Agreeing σ
+    → (w : Left) → step σ (letGo x room countsRoom freeRoom) ≡ done w
+    → w .free ≡ runs (λ b. eqb (held (w .lists) b) 0) (x .startblock) (x .blockcount)
+unfolding step
+step-offers σ x room countsRoom freeRoom h a w e =
+    let k = from-done went (letGoOutcome (σ .map) (σ .counts) x room countsRoom freeRoom) w e in
+    subst (λ (w : Left). w .free ≡ runs (λ b. eqb (held (w .lists) b) 0) (x .startblock) (x .blockcount)) (k .2)
+    (kept-letGo σ x room countsRoom freeRoom (k .0) h a (k .1) .1)
+
+-- ---- the whole list
+
+at-later : (c : Change) (cs before : List Change) (d : Change) → At cs before d → At (c ∷ cs) (c ∷ before) d
+at-later c cs before d h = record { rest = h .rest; stands = ap (λ (l : List Change). c ∷ l) (h .stands) }
+
+-- the changes of the first part of a list are changes of the list
+at-part : (cs before : List Change) (c : Change) → At cs before c → (b : List Change) (d : Change) → At before b d → At cs b d
+at-part cs before c h b d k =
+    record {
+      rest = k .rest ++ (c ∷ h .rest);
+      stands = h .stands ∙ ap (λ (l : List Change). l ++ (c ∷ h .rest)) (k .stands) ∙ append-assoc b (d ∷ k .rest) (c ∷ h .rest);
+    }
+
+pub start-part : (σ : Lists) (cs before : List Change) (c : Change) → Start σ cs → At cs before c → Start σ before
+start-part σ cs before c s h =
+    record {
+      accepted = s .accepted;
+      agree = s .agree;
+      extents = λ b d k. s .extents b d (at-part cs before c h b d k);
+      fresh = λ b d k. s .fresh b d (at-part cs before c h b d k);
+    }
+
+-- the first change meets no held block
+fresh-first : (σ : Lists) (c : Change) (cs : List Change) → Start σ (c ∷ cs) → (b : ℕ) → 0 < taken c (step σ c) b → held σ b ≡ 0
+unfolding run takes letsGo
+fresh-first σ c cs s b u =
+    split (ltb 0 (held σ b))
+    (λ e. absurd (s .fresh [] c (record { rest = cs; stands = refl }) b u (omega tests)))
+    (λ e. omega tests)
+
+-- and the rest is a history from what it left
+start-rest : (σ : Lists) (c : Change) (cs : List Change) → Start σ (c ∷ cs)
+    → Kept σ (taken c (step σ c)) (gone c (step σ c)) (after σ (step σ c)) → Start (after σ (step σ c)) cs
+unfolding run takes letsGo
+start-rest σ c cs s k =
+    record {
+      accepted = k .accepted;
+      agree = k .agree;
+      extents = λ before d h. s .extents (c ∷ before) d (at-later c cs before d h);
+      fresh = λ before d h b u v. s .fresh (c ∷ before) d (at-later c cs before d h) b u (omega (arith, k .sum b));
+    }
+
+pub kept-run : (σ : Lists) (cs : List Change) → Start σ cs → Kept σ (takes σ cs) (letsGo σ cs) (run σ cs)
+unfolding run takes letsGo
+kept-run σ [] s = kept-same σ (s .accepted) (s .agree)
+kept-run σ (c ∷ cs) s =
+    let k = kept-step σ c (s .accepted) (s .agree) (s .extents [] c (record { rest = cs; stands = refl })) (fresh-first σ c cs s) in
+    let τ : Lists = after σ (step σ c) in
+    kept-then σ τ (run τ cs) (taken c (step σ c)) (gone c (step σ c)) (takes τ cs) (letsGo τ cs) k (kept-run τ cs (start-rest σ c cs s k))
+
+run-append : (σ : Lists) (cs ds : List Change) → run σ (cs ++ ds) ≡ run (run σ cs) ds
+unfolding run
+run-append σ [] ds = refl
+run-append σ (c ∷ cs) ds = run-append (after σ (step σ c)) cs ds
+
+refused-same : (σ : Lists) (before : List Change) (c : Change) (n : ℕ) (v : Values) → step (run σ before) c ≡ refused n v
+    → run σ (before ++ (c ∷ [])) ≡ run σ before
+unfolding run after
+refused-same σ before c n v e = run-append σ before (c ∷ []) ∙ ap (after (run σ before)) e
+
+-- ---- the theorem
+
+pub history : (σ : Lists) (cs : List Change) → Start σ cs → Claim σ cs
+history σ cs s =
+    let k = kept-run σ cs s in
+    record {
+      sum = k .sum;
+      accepted = k .accepted;
+      agree = k .agree;
+      refusals = λ before c h n v e. refused-same σ before c n v e;
+      offers =
+          λ before x room countsRoom freeRoom h w e. let p = kept-run σ before (start-part σ cs before (letGo x room countsRoom freeRoom) s h) in
+          step-offers (run σ before) x room countsRoom freeRoom (p .accepted) (p .agree) w e;
+      map-returned = returned kind.Rmap (run σ cs .map) (k .accepted .map-bytes) (k .accepted .map-whole) (k .accepted .map-order);
+      counts-returned = returned kind.Refcount (run σ cs .counts) (k .accepted .counts-bytes) (k .accepted .counts-whole) (k .accepted .counts-order);
+    }

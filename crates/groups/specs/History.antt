@@ -1,0 +1,153 @@
+-- Histories: lists of takes and lets go, refused ones included, run from a reverse map and counts, and what is claimed of each of them.
+-- Assumes nothing.
+use Prim.Native.Nat.{ℕ, _+_, _<_}
+use mathlib.Core.Bool.{true}
+use mathlib.Core.Path.{_≡_}
+use mathlib.Core.List.{List, [], _∷_, _++_}
+use lib.Dec.{eqb}
+use Rattle.codec.specs.Bytes.{IsBytes}
+use Rattle.codec.specs.Question.{Values, Outcome, done, refused, mapOutcome}
+use Rattle.codec.specs.Records.{recordsOf, bytesOf, RmapFits, rmaps, refcounts}
+use Rattle.codec.specs.Accepted.{whole}
+use Rattle.codec.specs.Rmaps as rmap
+use Rattle.codec.specs.Refcounts as refcount
+use Rattle.codec.specs.declared.rmap.Rmap.{Rmap}
+use Rattle.blocks.specs.declared.kind.TreeKind.the-variants as kind
+use Rattle.codec.specs.declared.free_extent.FreeExtent.{FreeExtent}
+use Rattle.lists.specs.Extent.{within, runs}
+use Rattle.lists.specs.Holders.{holders}
+use Rattle.lists.specs.Edits.{insertOutcome, insertSharedOutcome}
+use Rattle.groups.specs.LetGo.{Gone, letGoOutcome}
+use Rattle.groups.specs.Agree.{Agree}
+use Rattle.groups.specs.Returned.{Returned}
+
+-- ---- the two lists
+
+-- the bytes of a reverse map and of shared counts
+pub record Lists : Type 0 where
+  pub map : List ℕ
+  pub counts : List ℕ
+
+-- an accepted reverse map passes 19 and 20, accepted counts 19 and 21
+pub record Accepted (σ : Lists) : Type 0 where
+  pub map-bytes : IsBytes (σ .map)
+  pub counts-bytes : IsBytes (σ .counts)
+  pub map-whole : whole 24 (σ .map) ≡ true
+  pub map-order : rmap.accepted (recordsOf rmaps (σ .map)) ≡ true
+  pub counts-whole : whole 12 (σ .counts) ≡ true
+  pub counts-order : refcount.accepted (recordsOf refcounts (σ .counts)) ≡ true
+
+-- a shared count n lies over a block exactly if n records, two or more, do
+abbrev pub Agreeing : Lists → Type 0
+Agreeing σ = Agree (recordsOf rmaps (σ .map)) (recordsOf refcounts (σ .counts))
+
+-- how many records lie over block b
+abbrev pub held : Lists → ℕ → ℕ
+held σ b = holders (recordsOf rmaps (σ .map)) b
+
+-- ---- one change
+
+-- first takes by `insert` and by `insert_shared`, and lets go, with any extents and output lengths
+pub data Change : Type 0 where
+  take : Rmap → (room : ℕ) → Change
+  takeShared : Rmap → (room : ℕ) → Change
+  letGo : Rmap → (room countsRoom freeRoom : ℕ) → Change
+
+abbrev pub extent : Change → Rmap
+extent (take x room) = x
+extent (takeShared x room) = x
+extent (letGo x room countsRoom freeRoom) = x
+
+-- what an accepted call leaves: the lists, and the free extents that it offers
+pub record Left : Type 0 where
+  pub lists : Lists
+  pub free : List FreeExtent
+
+-- a first take leaves the counts alone
+abbrev pub took : Lists → List Rmap → Left
+took σ m = record { lists = record { map = bytesOf rmaps m; counts = σ .counts }; free = [] }
+
+abbrev pub went : Gone → Left
+went g = record { lists = record { map = bytesOf rmaps (g .map); counts = bytesOf refcounts (g .counts) }; free = g .free }
+
+-- each outcome is the one 01 defines
+unfoldable pub step : Lists → Change → Outcome Left
+step σ (take x room) = mapOutcome (took σ) (insertOutcome (σ .map) x room)
+step σ (takeShared x room) = mapOutcome (took σ) (insertSharedOutcome (σ .map) x room)
+step σ (letGo x room countsRoom freeRoom) = mapOutcome went (letGoOutcome (σ .map) (σ .counts) x room countsRoom freeRoom)
+
+-- each call reads the lists the last accepted one left
+unfoldable pub after : Lists → Outcome Left → Lists
+after σ (done w) = w .lists
+after σ (refused n v) = σ
+
+-- 1 at the blocks that an accepted call covered, and 0 elsewhere
+unfoldable pub covered : Outcome Left → Rmap → ℕ → ℕ
+covered (done w) x b = within (x .startblock) (x .blockcount) 1 b
+covered (refused n v) x b = 0
+
+-- the same of takes alone, and of lets go alone
+unfoldable pub taken : Change → Outcome Left → ℕ → ℕ
+taken (take x room) o b = covered o x b
+taken (takeShared x room) o b = covered o x b
+taken (letGo x room countsRoom freeRoom) o b = 0
+
+unfoldable pub gone : Change → Outcome Left → ℕ → ℕ
+gone (take x room) o b = 0
+gone (takeShared x room) o b = 0
+gone (letGo x room countsRoom freeRoom) o b = covered o x b
+
+-- ---- the whole list
+
+-- the lists after all changes
+unfoldable pub run : Lists → List Change → Lists
+run σ [] = σ
+run σ (c ∷ cs) = run (after σ (step σ c)) cs
+
+-- how many accepted takes, and how many accepted lets go, covered block b
+unfoldable pub takes : Lists → List Change → ℕ → ℕ
+takes σ [] b = 0
+takes σ (c ∷ cs) b = taken c (step σ c) b + takes (after σ (step σ c)) cs b
+
+unfoldable pub letsGo : Lists → List Change → ℕ → ℕ
+letsGo σ [] b = 0
+letsGo σ (c ∷ cs) b = gone c (step σ c) b + letsGo (after σ (step σ c)) cs b
+
+-- c is a change of the list cs, and before are those before it
+pub record At (cs before : List Change) (c : Change) : Type 0 where
+  pub rest : List Change
+  pub stands : cs ≡ before ++ (c ∷ rest)
+
+-- a block is held within a history if the sum so far is above 0: the records at the start + accepted takes − accepted lets go that covered it
+abbrev pub Held : Lists → List Change → ℕ → Type 0
+Held σ before b = letsGo σ before b < held σ b + takes σ before b
+
+-- ---- the claim
+
+-- what a history starts from
+pub record Start (σ : Lists) (cs : List Change) : Type 0 where
+  -- a reverse map and counts that are accepted and agree
+  pub accepted : Accepted σ
+  pub agree : Agreeing σ
+  -- an extent's numbers are those of its fields
+  pub extents : (before : List Change) (c : Change) → At cs before c → RmapFits (extent c)
+  -- no accepted take covering a block then held
+  pub fresh : (before : List Change) (c : Change) → At cs before c → (b : ℕ) → 0 < taken c (step (run σ before) c) b → Held σ before b → ⊥
+
+-- demand 3 of a history
+pub record Claim (σ : Lists) (cs : List Change) : Type 0 where
+  -- after the whole list, the number of records over each block is the starting one + accepted takes − accepted lets go that covered it
+  pub sum : (b : ℕ) → held (run σ cs) b + letsGo σ cs b ≡ held σ b + takes σ cs b
+  -- and reverse map and counts are again accepted and agree
+  pub accepted : Accepted (run σ cs)
+  pub agree : Agreeing (run σ cs)
+  -- a refused call changes neither
+  pub refusals : (before : List Change) (c : Change) → At cs before c → (n : ℕ) (v : Values) → step (run σ before) c ≡ refused n v
+      → run σ (before ++ (c ∷ [])) ≡ run σ before
+  -- each accepted let go offers exactly those of its blocks that no record holds after it, as longest runs, ascending
+  pub offers : (before : List Change) (x : Rmap) (room countsRoom freeRoom : ℕ) → At cs before (letGo x room countsRoom freeRoom)
+      → (w : Left) → step (run σ before) (letGo x room countsRoom freeRoom) ≡ done w
+      → w .free ≡ runs (λ b. eqb (held (w .lists) b) 0) (x .startblock) (x .blockcount)
+  -- each of the two, built and stored, is returned by the walk
+  pub map-returned : Returned kind.Rmap (run σ cs .map)
+  pub counts-returned : Returned kind.Refcount (run σ cs .counts)

@@ -1,0 +1,17 @@
+// A group: its reverse map and its shared counts, edited together.
+use lists::EditRefusal;
+
+pub mod let_go;
+
+// The bytes of the new reverse map, of the new counts and of the free extents.
+pub struct Sizes {
+    pub map: usize,
+    pub counts: usize,
+    pub free: usize,
+}
+
+// What letting an extent go comes to. Document 01's number of each refusal is `editNumber` of the crate lists.
+pub enum LetGone {
+    Done(Sizes),
+    Refused(EditRefusal),
+}
