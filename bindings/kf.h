@@ -1,0 +1,80 @@
+/* The C interface of the group trees. Link target/staticlib/libexports.a, made by `rt staticlib exports`.
+ *
+ * A slice passes as a pointer, which is not null, and the number of its elements. No two slices of a call overlap where one of them is
+ * written. Every call but kf_crc32c answers 0 where it was done, else document 01's number of the refusal, and writes the four figures of
+ * `said` whole. A list of records is its bytes as on disk: 24 for a reverse-map record, 12 for a shared count, 8 for a free extent.
+ *
+ * A geometry is its six numbers: the version (4 or 5), the block size in bytes, the blocks of a group, the group's number, and the 16 bytes
+ * of the volume's UUID as two big-endian numbers. kind 0 is the reverse map, any other number the shared counts. */
+#ifndef KF_H
+#define KF_H
+
+#include <stddef.h>
+#include <stdint.h>
+
+#ifdef __cplusplus
+extern "C" {
+#endif
+
+#define KF_GEOMETRY \
+    uint16_t version, uint32_t blocksize, uint32_t agblocks, uint32_t agno, uint64_t uuid_high, uint64_t uuid_low
+
+/* CRC32C of the bytes. */
+uint32_t kf_crc32c(const uint8_t *bytes, size_t bytes_len);
+
+/* Is it an accepted reverse map (19, 20)? Are they accepted shared counts (19, 21)? */
+uint32_t kf_check_rmaps(const uint8_t *list, size_t list_len);
+uint32_t kf_check_refcounts(const uint8_t *list, size_t list_len);
+
+/* Is it block `block` of the group's tree, at level `level` (1 to 10)?
+ * said: level, records, where they begin, how many fit; refused: expected, found (zeros where they are no numbers), 0, 0. */
+uint32_t kf_check_block(KF_GEOMETRY, uint32_t kind, uint32_t block, uint16_t level,
+                        const uint8_t *bytes, size_t bytes_len, uint64_t said[4]);
+
+/* The blocks of each level of a tree of so many records, leaves first (1, 16). Nine places are written; those past the last level, and all
+ * of a refused plan, are 0.
+ * said: levels, blocks of all levels, 0, 0; refused: zeros. */
+uint32_t kf_plan(KF_GEOMETRY, uint32_t kind, uint64_t records, uint64_t levels[9], uint64_t said[4]);
+
+/* The blocks of a fresh tree of the list, one after another, root last; `numbers` are the planned blocks' numbers in the group
+ * (1, 3, 19, 20 or 21, 16, 17, 18). A refusal writes nothing, and nothing is written past the last block.
+ * said: blocks, bytes, 0, 0; refused: zeros. */
+uint32_t kf_build(KF_GEOMETRY, uint32_t kind, const uint8_t *list, size_t list_len, const uint32_t *numbers, size_t numbers_len,
+                  uint8_t *out, size_t out_len, uint64_t said[4]);
+
+/* The records of a tree of so many levels, from its root, and its blocks by level, leaves first. The image is the group, block n at n times
+ * the block size. The stack takes 2 x levels x node capacity places, the scratch as many as `blocks` (1, 11, 12: nothing is touched). A later
+ * refusal (13 to 15, 3 to 10) leaves all four zero; a finished walk leaves the stack and the scratch zero, and the lists past the result as
+ * they were.
+ * said: visits, records, bytes of records, 0; refused: expected, found, visits, 0. */
+uint32_t kf_walk(KF_GEOMETRY, uint32_t kind, const uint8_t *image, size_t image_len, uint32_t root, uint32_t levels,
+                 uint32_t *stack, size_t stack_len, uint64_t *scratch, size_t scratch_len,
+                 uint32_t *blocks, size_t blocks_len, uint8_t *records, size_t records_len, uint64_t said[4]);
+
+/* An extent taken or given up: the reverse map `old` is read and the new one written to `fresh` (19, 20, 22, 23 or 24, 26). A refusal
+ * writes nothing, and bytes past the new list stay.
+ * said: bytes of the new list, 0, 0, 0; refused: zeros. */
+uint32_t kf_insert(const uint8_t *old, size_t old_len, uint32_t startblock, uint32_t blockcount, uint64_t owner, uint64_t offset,
+                   uint8_t *fresh, size_t fresh_len, uint64_t said[4]);
+uint32_t kf_insert_shared(const uint8_t *old, size_t old_len, uint32_t startblock, uint32_t blockcount, uint64_t owner, uint64_t offset,
+                          uint8_t *fresh, size_t fresh_len, uint64_t said[4]);
+uint32_t kf_remove(const uint8_t *old, size_t old_len, uint32_t startblock, uint32_t blockcount, uint64_t owner, uint64_t offset,
+                   uint8_t *fresh, size_t fresh_len, uint64_t said[4]);
+
+/* Counts lowered by one over an extent, and its blocks that are free again (19, 21, 22, 25, 26).
+ * said: bytes of the new counts, bytes of the free extents, 0, 0; refused: zeros. */
+uint32_t kf_release(const uint8_t *counts, size_t counts_len, uint32_t startblock, uint32_t blockcount,
+                    uint8_t *fresh, size_t fresh_len, uint8_t *free_extents, size_t free_extents_len, uint64_t said[4]);
+
+/* The whole letting go: both lists at once (19, 20, 22, 24, then 19, 21, 25, then 26).
+ * said: bytes of the new reverse map, of the new counts and of the free extents, 0; refused: zeros. */
+uint32_t kf_let_go(const uint8_t *map, size_t map_len, const uint8_t *counts, size_t counts_len,
+                   uint32_t startblock, uint32_t blockcount, uint64_t owner, uint64_t offset,
+                   uint8_t *new_map, size_t new_map_len, uint8_t *new_counts, size_t new_counts_len,
+                   uint8_t *free_extents, size_t free_extents_len, uint64_t said[4]);
+
+#ifdef __cplusplus
+}
+#endif
+
+#endif

@@ -1,0 +1,53 @@
+-- What a plan and a walk say, from what they come to.
+-- Assumes nothing.
+use Prim.Native.Nat.{ℕ}
+use mathlib.Core.Path.{_≡_, refl, sym, ap, ap₂, _∙_}
+use mathlib.Core.List.{List, [], _∷_}
+use lib.ListN.{length, take}
+use Rattle.codec.specs.Question.{Outcome, none, done, refused}
+use Rattle.blocks.specs.declared.geometry.Geometry.{Geometry}
+use Rattle.blocks.specs.declared.kind.TreeKind.{TreeKind}
+use Rattle.blocks.specs.Tree.{recordLen}
+use Rattle.trees.specs.declared.plan.PlanAnswer.{PlanAnswer}
+use Rattle.trees.specs.declared.plan.PlanAnswer.the-variants.{Levels}
+use Rattle.trees.specs.declared.plan.Planned.{Planned}
+use Rattle.trees.specs.declared.walk.Walked.{Walked}
+use Rattle.trees.specs.Plan.{sum}
+use Rattle.trees.specs.PlanAnswer.{PlanIs, planOutcome, answerOutcome, levelsSaid, levelsIn, placesOf}
+use Rattle.trees.specs.WalkCall.{walkOf, lent, report}
+use Rattle.trees.specs.WalkAnswer.{WalkIs, walkedReport}
+use Rattle.exports.specs.Interface.{Says, planFigures}
+use Rattle.exports.specs.WalkFigures.{Reports, Leaves}
+
+module _ (o : Outcome (List ℕ)) (p : Planned) (is : PlanIs o p) where
+  -- an accepted plan of n levels
+  pub levels-said : (n : ℕ) → p .answer ≡ Levels n → Says planFigures o 0 (n ∷ p .total ∷ 0 ∷ 0 ∷ [])
+  levels-said n e =
+      let h : o ≡ done (take n (p .blocks)) = sym (is .outcome) ∙ ap (λ (a : PlanAnswer). answerOutcome a (p .blocks)) e in
+      let k : n ≡ length (take n (p .blocks)) = sym (ap levelsSaid e) ∙ is .levels ∙ ap (λ (x : Outcome (List ℕ)). length (levelsIn x)) h in
+      let t : p .total ≡ sum (take n (p .blocks)) = is .all ∙ ap (λ (x : Outcome (List ℕ)). sum (levelsIn x)) h in
+      rw h (record { number = refl; figures = ap₂ (λ (a b : ℕ). a ∷ b ∷ 0 ∷ 0 ∷ []) k t })
+
+  -- a refused one
+  pub refusal-said : (n : ℕ) (a : PlanAnswer) → p .answer ≡ a → answerOutcome a (p .blocks) ≡ refused n none
+      → Says planFigures o n (0 ∷ 0 ∷ 0 ∷ 0 ∷ [])
+  refusal-said n a e r =
+      let h : o ≡ refused n none = sym (is .outcome) ∙ ap (λ (x : PlanAnswer). answerOutcome x (p .blocks)) e ∙ r in
+      rw h (record { number = refl; figures = refl })
+
+-- the call of a plan, on the geometry and kind that the numbers stand for
+pub plan-said : {g g′ : Geometry} {k k′ : TreeKind} (n : ℕ) {p : Planned} {r : ℕ} {said : List ℕ} → g ≡ g′ → k ≡ k′ → PlanIs (planOutcome g k n) p
+    → ((o : Outcome (List ℕ)) → PlanIs o p → Says planFigures o r said)
+    → Says planFigures (planOutcome g′ k′ n) r said × (p .blocks ≡ placesOf (levelsIn (planOutcome g′ k′ n)))
+plan-said n e f is says = rw (← e, ← f) (says _ is, is .places)
+
+-- the call of a walk
+pub walk-said : {g g′ : Geometry} {k k′ : TreeKind} (image : List ℕ) (root levels : ℕ)
+    {w : Walked} {r : ℕ} {said stack stack′ scratch scratch′ blocks blocks′ out out′ : List ℕ} → g ≡ g′ → k ≡ k′
+    → WalkIs (recordLen k) levels (walkOf g k image root levels (lent stack scratch blocks out)) w stack stack′ scratch scratch′ blocks blocks′ out out′
+    → Reports (walkedReport w) r said
+    → Reports (report (recordLen k′) (walkOf g′ k′ image root levels (lent stack scratch blocks out))) r said
+    × Leaves levels (walkOf g′ k′ image root levels (lent stack scratch blocks out)) stack stack′ scratch scratch′ blocks blocks′ out out′
+walk-said image root levels e f is says =
+    rw (← e, ← f)
+    (rw (← is .answer) says, record { stack-is = is .stack-is; scratch-is = is .scratch-is; blocks-are = is .blocks-are; records-are = is .records-are })

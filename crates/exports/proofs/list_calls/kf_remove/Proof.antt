@@ -1,0 +1,27 @@
+-- `exports::list_calls::kf_remove` meets its contract.
+-- Assumes nothing.
+use borrow.Author.Needs.{needs}
+use mathlib.Core.Path.{_≡_}
+use Rattle.exports.proofs.list_calls.kf_remove.Statement.{statement}
+use Rattle.exports.proofs.list_calls.kf_remove.Tie as tie
+
+extent-requires : tie.Need-extent-requires
+extent-requires c κs = search needs
+
+remove-requires : tie.Need-remove-requires
+remove-requires c κs = search needs
+
+edited-answer-requires : tie.Need-edited-answer-requires
+edited-answer-requires c κs = search needs
+
+same-length : tie.Need-same-length
+same-length c = search needs
+
+returns : tie.Need-returns
+returns c =
+    let e = c .before .before .before .before .remove .ensures in
+    rw (← c .before .before .before .before .before .before .extent .ensures) (rw (← e .0) (c .before .edited-answer .ensures), e .1)
+
+pub kf-remove-spec : {M : Type 1} → statement M
+kf-remove-spec =
+    tie.close (tie.spec extent-requires remove-requires edited-answer-requires same-length returns)

@@ -1,0 +1,129 @@
+// Calls that edit a list. The old list is read, the new one written to another buffer, and a refusal writes nothing but the figures.
+ghost use mathlib.Core.Path.{_≡_};
+ghost use lib.ListN.{length};
+ghost use Rattle.codec.specs.Question.{mapOutcome};
+ghost use Rattle.codec.specs.Records.{rmaps, refcounts, freeExtents};
+ghost use Rattle.lists.specs.Edits.{insertOutcome, insertSharedOutcome, removeOutcome, releaseOutcome, written};
+ghost use Rattle.lists.specs.Answer.{lengthOf, lengthsOf};
+ghost use Rattle.groups.specs.LetGo.{letGoOutcome};
+ghost use Rattle.groups.specs.Answer.{sizesOf, mapOf, countsOf, freeOf};
+ghost use Rattle.exports.specs.Interface.{extentOf, Says, lengthFigures, releaseFigures, goneFigures};
+use crate::answers::edited_answer;
+use crate::answers::let_gone_answer;
+use crate::answers::released_answer;
+use crate::given::extent;
+use groups::let_go::let_go;
+use lists::refcounts::release;
+use lists::rmap_edits::insert;
+use lists::rmap_edits::insert_shared;
+use lists::rmap_edits::remove;
+
+// Takes an extent: questions 19, 20, 22, 23 and 26. The figure of a new list is its bytes.
+#[no_mangle]
+pub extern "C" fn kf_insert(
+    old: &[u8],
+    startblock: u32,
+    blockcount: u32,
+    owner: u64,
+    offset: u64,
+    new: &mut [u8],
+    said: &mut [u64; 4],
+) -> u32
+    ensures { λ r. ⌜ Says lengthFigures (lengthOf rmaps (insertOutcome (now (old .entry)) (extentOf startblock blockcount owner offset) (length (now (new .entry))))) r (now (said .exit)) ⌝ }
+    ensures { λ _. ⌜ now (new .exit) ≡ written rmaps (now (new .entry)) (insertOutcome (now (old .entry)) (extentOf startblock blockcount owner offset) (length (now (new .entry)))) ⌝ }
+{
+    let x = extent(startblock, blockcount, owner, offset);
+    let answer = edited_answer(insert(old, x, new));
+    let figures = answer.figures;
+    *said = figures;
+    answer.number
+}
+
+// Takes an extent whose blocks others may hold: questions 19, 20, 22, 23 and 26.
+#[no_mangle]
+pub extern "C" fn kf_insert_shared(
+    old: &[u8],
+    startblock: u32,
+    blockcount: u32,
+    owner: u64,
+    offset: u64,
+    new: &mut [u8],
+    said: &mut [u64; 4],
+) -> u32
+    ensures { λ r. ⌜ Says lengthFigures (lengthOf rmaps (insertSharedOutcome (now (old .entry)) (extentOf startblock blockcount owner offset) (length (now (new .entry))))) r (now (said .exit)) ⌝ }
+    ensures { λ _. ⌜ now (new .exit) ≡ written rmaps (now (new .entry)) (insertSharedOutcome (now (old .entry)) (extentOf startblock blockcount owner offset) (length (now (new .entry)))) ⌝ }
+{
+    let x = extent(startblock, blockcount, owner, offset);
+    let answer = edited_answer(insert_shared(old, x, new));
+    let figures = answer.figures;
+    *said = figures;
+    answer.number
+}
+
+// Gives an extent up: questions 19, 20, 22, 24 and 26.
+#[no_mangle]
+pub extern "C" fn kf_remove(
+    old: &[u8],
+    startblock: u32,
+    blockcount: u32,
+    owner: u64,
+    offset: u64,
+    new: &mut [u8],
+    said: &mut [u64; 4],
+) -> u32
+    ensures { λ r. ⌜ Says lengthFigures (lengthOf rmaps (removeOutcome (now (old .entry)) (extentOf startblock blockcount owner offset) (length (now (new .entry))))) r (now (said .exit)) ⌝ }
+    ensures { λ _. ⌜ now (new .exit) ≡ written rmaps (now (new .entry)) (removeOutcome (now (old .entry)) (extentOf startblock blockcount owner offset) (length (now (new .entry)))) ⌝ }
+{
+    let x = extent(startblock, blockcount, owner, offset);
+    let answer = edited_answer(remove(old, x, new));
+    let figures = answer.figures;
+    *said = figures;
+    answer.number
+}
+
+// Lowers the counts over an extent: questions 19, 21, 22, 25 and 26. The figures are the bytes of the new counts and of the free extents.
+#[no_mangle]
+pub extern "C" fn kf_release(
+    counts: &[u8],
+    startblock: u32,
+    blockcount: u32,
+    new: &mut [u8],
+    free: &mut [u8],
+    said: &mut [u64; 4],
+) -> u32
+    ensures { λ r. ⌜ Says releaseFigures (lengthsOf (releaseOutcome (now (counts .entry)) startblock blockcount (length (now (new .entry))) (length (now (free .entry))))) r (now (said .exit)) ⌝ }
+    ensures { λ _. ⌜ now (new .exit) ≡ written refcounts (now (new .entry)) (mapOutcome (λ f. f .counts) (releaseOutcome (now (counts .entry)) startblock blockcount (length (now (new .entry))) (length (now (free .entry))))) ⌝ }
+    ensures { λ _. ⌜ now (free .exit) ≡ written freeExtents (now (free .entry)) (mapOutcome (λ f. f .free) (releaseOutcome (now (counts .entry)) startblock blockcount (length (now (new .entry))) (length (now (free .entry))))) ⌝ }
+{
+    let answer = released_answer(release(counts, startblock, blockcount, new, free));
+    let figures = answer.figures;
+    *said = figures;
+    answer.number
+}
+
+// The whole letting go: questions 19, 20, 22 and 24, then 19, 21 and 25, then 26. The figures are the bytes of the new reverse map, of the new
+// counts and of the free extents.
+#[no_mangle]
+pub extern "C" fn kf_let_go(
+    map: &[u8],
+    counts: &[u8],
+    startblock: u32,
+    blockcount: u32,
+    owner: u64,
+    offset: u64,
+    new_map: &mut [u8],
+    new_counts: &mut [u8],
+    free: &mut [u8],
+    said: &mut [u64; 4],
+) -> u32
+    ensures { λ r. ⌜ Says goneFigures (sizesOf (letGoOutcome (now (map .entry)) (now (counts .entry)) (extentOf startblock blockcount owner offset) (length (now («new_map» .entry))) (length (now («new_counts» .entry))) (length (now (free .entry))))) r (now (said .exit)) ⌝ }
+    ensures { λ _. ⌜ now («new_map» .exit) ≡ written rmaps (now («new_map» .entry)) (mapOf (letGoOutcome (now (map .entry)) (now (counts .entry)) (extentOf startblock blockcount owner offset) (length (now («new_map» .entry))) (length (now («new_counts» .entry))) (length (now (free .entry))))) ⌝ }
+    ensures { λ _. ⌜ now («new_counts» .exit) ≡ written refcounts (now («new_counts» .entry)) (countsOf (letGoOutcome (now (map .entry)) (now (counts .entry)) (extentOf startblock blockcount owner offset) (length (now («new_map» .entry))) (length (now («new_counts» .entry))) (length (now (free .entry))))) ⌝ }
+    ensures { λ _. ⌜ now (free .exit) ≡ written freeExtents (now (free .entry)) (freeOf (letGoOutcome (now (map .entry)) (now (counts .entry)) (extentOf startblock blockcount owner offset) (length (now («new_map» .entry))) (length (now («new_counts» .entry))) (length (now (free .entry))))) ⌝ }
+{
+    let x = extent(startblock, blockcount, owner, offset);
+    let answer = let_gone_answer(let_go(map, counts, x, new_map, new_counts, free));
+    let figures = answer.figures;
+    *said = figures;
+    answer.number
+}
