@@ -1,0 +1,174 @@
+//! CRC32C, and the check of single blocks.
+
+use crate::edits::{expect, same};
+use crate::lent::hex;
+use crate::library;
+use crate::tally::{differ, Tally};
+use oracle::ag_btree::reach::stamp;
+use oracle::sample::Random;
+use oracle::{bare, paper, Geometry, Tree};
+
+pub fn crcs(r: &mut Random, scale: u64, tally: &mut Tally) {
+    for i in 0..20_000 * scale {
+        let n = if i < 600 { i } else { r.below(600) };
+        let mut b = r.bytes(n as usize);
+        match r.below(4) {
+            0 => b.fill(0),
+            1 => b.fill(0xFF),
+            _ => (),
+        }
+        let (got, want) = (library::crc32c(&b), crc32c::crc32c(&b));
+        if got != want {
+            differ(
+                "crc32c",
+                "answer",
+                &got.to_string(),
+                &want.to_string(),
+                &hex(&b),
+            );
+        }
+        tally.add("crc32c", 0);
+    }
+}
+
+/// A geometry; `bad` in some of the ways that question 1 refuses.
+pub fn geometry(r: &mut Random, bad: bool) -> Geometry {
+    let mut g = Geometry {
+        version: 5,
+        block_size: r.pick(&[512, 512, 512, 512, 1024, 1024, 2048, 4096]),
+        agblocks: r.pick(&[0, 1, 64, 65, 100, 1000, 1 << 20, u32::MAX]),
+        agno: r.pick(&[0, 1, 2, 3, 77]),
+        meta_uuid: r.bytes(16).try_into().expect("16 bytes"),
+    };
+    if r.below(12) == 0 {
+        g.version = 4;
+    }
+    // The largest group of a volume that 64 bits address.
+    if r.below(12) == 0 {
+        g.agblocks = u32::MAX - r.below(2) as u32;
+        let most = ((1u128 << 64) / u128::from(g.block_size) - (1 << 32)) / u128::from(g.agblocks);
+        g.agno = u32::try_from(most).unwrap_or(u32::MAX);
+        if r.below(2) == 0 {
+            g.agno = g.agno.saturating_add(1);
+        }
+    }
+    if bad {
+        match r.below(4) {
+            0 => g.version = r.pick(&[0, 3, 6, 20, 21, 0x0105, 65535]),
+            1 => g.block_size = r.pick(&[0, 1, 256, 511, 513, 536, 1000, 131_072, 1 << 31]),
+            2 => (g.agblocks, g.agno) = (u32::MAX, u32::MAX),
+            _ => {
+                g.block_size = 65536;
+                g.agblocks = u32::MAX;
+                g.agno = 65534 + r.below(4) as u32;
+            }
+        }
+    }
+    g
+}
+
+/// Put the check into a version 5 block.
+pub fn seal(b: &mut [u8]) {
+    if b.len() >= 56 {
+        let crc = bare::block_crc(b);
+        b[52..56].copy_from_slice(&crc.to_le_bytes());
+    }
+}
+
+fn one(g: &Geometry, tree: Tree, block: u32, level: u16, b: &[u8], tally: &mut Tally) {
+    let input = || {
+        format!(
+            "{g:?} {tree:?} block {block} level {level} bytes {}",
+            hex(b)
+        )
+    };
+    let want = paper::parse_block(g, tree, b, block, level);
+    // Any number but 0 is the counts.
+    let kind = match tree {
+        Tree::Rmap => 0,
+        Tree::Refcount => 1 + (block & 1) * 0xFFFF_FFFE,
+    };
+    let got = library::check_block(&library::g(g), kind, block, level, b);
+    same("check_block", &got, expect(&want, header_figures), &input);
+    tally.add("check_block", got.number);
+}
+
+/// The figures of a good block.
+pub fn header_figures(h: &bare::Header) -> [u64; 4] {
+    [
+        u64::from(h.level),
+        u64::from(h.records),
+        h.body as u64,
+        h.capacity as u64,
+    ]
+}
+
+/// A block with its number and level: stamped, then mostly damaged. It has
+/// `len` bytes, or a few.
+pub fn block(r: &mut Random, g: &Geometry, tree: Tree, len: usize) -> (u32, u16, Vec<u8>) {
+    let block = r.pick(&[0, 1, 2, 77, u32::MAX, u32::MAX - 1]);
+    let level = r.pick(&[0, 0, 1, 1, 2, 8, 9, 65535]);
+    let len = match r.below(12) {
+        0 => r.below(70) as usize,
+        1 => 56 + r.below(60) as usize,
+        2 => len + 1,
+        _ => len,
+    };
+    let header = if g.version == 5 { 56 } else { 16 };
+    let place = if level == 0 {
+        tree.record_len()
+    } else {
+        tree.entry_len()
+    };
+    let capacity = len.saturating_sub(header) / place;
+    let mut b = r.bytes(1).repeat(len);
+    let records = match r.below(6) {
+        0 => capacity,
+        1 => capacity + 1,
+        2 => 65535,
+        _ => r.below(capacity as u64 + 1) as usize,
+    };
+    if len >= 56 {
+        let stamped = Geometry { version: 5, ..*g };
+        let at = stamped.superblock();
+        let n = records.min(65535) as u16;
+        stamp(&mut b, &at, tree.shape(), g.agno, block, level, n);
+        seal(&mut b);
+    } else if len >= 8 {
+        let magic = tree.shape().magic_v5.to_be_bytes();
+        b[..4].copy_from_slice(&magic);
+        b[4..6].copy_from_slice(&level.to_be_bytes());
+    }
+    // Damage: anywhere, or a field, with the check put right again.
+    match r.below(8) {
+        0 if len > 0 => {
+            let at = r.below(len as u64) as usize;
+            b[at] ^= 1 << r.below(8);
+        }
+        1..=5 if len > 0 => {
+            let at = r.below(56.min(len as u64)) as usize;
+            b[at] = r.next() as u8;
+            seal(&mut b);
+        }
+        _ => (),
+    }
+    (block, level, b)
+}
+
+pub fn blocks(r: &mut Random, scale: u64, tally: &mut Tally) {
+    for i in 0..150_000 * scale {
+        let bad = r.below(40) == 0;
+        let g = geometry(r, bad);
+        let tree = r.pick(&Tree::BOTH);
+        let len = match g.block_size {
+            n if n > 4096 || i % 100 == 0 => 65536,
+            n => n as usize,
+        };
+        let (block, level, b) = block(r, &g, tree, len);
+        one(&g, tree, block, level, &b, tally);
+        if r.below(10) == 0 {
+            let other = r.pick(&Tree::BOTH);
+            one(&g, other, block ^ 1, level ^ 1, &b, tally);
+        }
+    }
+}

@@ -1,0 +1,241 @@
+//! The library's calls: the number and the figures of each, just as they come.
+
+use kf::raw;
+use oracle::rmap::Rmap;
+use oracle::{Geometry, Tree};
+
+pub struct Said {
+    pub number: u32,
+    pub figures: [u64; 4],
+}
+
+const BEFORE: [u64; 4] = [0x5A5A_5A5A_5A5A_5A5A; 4];
+
+fn said(f: impl FnOnce(&mut [u64; 4]) -> u32) -> Said {
+    let mut figures = BEFORE;
+    let number = f(&mut figures);
+    Said { number, figures }
+}
+
+/// As the interface takes a geometry.
+pub struct G {
+    version: u16,
+    blocksize: u32,
+    agblocks: u32,
+    agno: u32,
+    high: u64,
+    low: u64,
+}
+
+pub fn g(g: &Geometry) -> G {
+    let n = u128::from_be_bytes(g.meta_uuid);
+    G {
+        version: u16::try_from(g.version).expect("a version of 16 bits"),
+        blocksize: u32::try_from(g.block_size).expect("a block size of 32 bits"),
+        agblocks: g.agblocks,
+        agno: g.agno,
+        high: (n >> 64) as u64,
+        low: n as u64,
+    }
+}
+
+pub fn kind(t: Tree) -> u32 {
+    match t {
+        Tree::Rmap => 0,
+        Tree::Refcount => 1,
+    }
+}
+
+pub fn crc32c(b: &[u8]) -> u32 {
+    kf::crc32c(b)
+}
+
+pub fn check_rmaps(b: &[u8]) -> u32 {
+    // SAFETY: here and below slices by pointer and length, and figures.
+    unsafe { raw::kf_check_rmaps(b.as_ptr(), b.len()) }
+}
+
+pub fn check_refcounts(b: &[u8]) -> u32 {
+    unsafe { raw::kf_check_refcounts(b.as_ptr(), b.len()) }
+}
+
+pub fn check_block(g: &G, kind: u32, block: u32, level: u16, b: &[u8]) -> Said {
+    said(|s| unsafe {
+        raw::kf_check_block(
+            g.version,
+            g.blocksize,
+            g.agblocks,
+            g.agno,
+            g.high,
+            g.low,
+            kind,
+            block,
+            level,
+            b.as_ptr(),
+            b.len(),
+            s,
+        )
+    })
+}
+
+pub fn plan(g: &G, kind: u32, records: u64, levels: &mut [u64; 9]) -> Said {
+    said(|s| unsafe {
+        raw::kf_plan(
+            g.version,
+            g.blocksize,
+            g.agblocks,
+            g.agno,
+            g.high,
+            g.low,
+            kind,
+            records,
+            levels,
+            s,
+        )
+    })
+}
+
+pub fn build(g: &G, kind: u32, list: &[u8], numbers: &[u32], out: &mut [u8]) -> Said {
+    said(|s| unsafe {
+        raw::kf_build(
+            g.version,
+            g.blocksize,
+            g.agblocks,
+            g.agno,
+            g.high,
+            g.low,
+            kind,
+            list.as_ptr(),
+            list.len(),
+            numbers.as_ptr(),
+            numbers.len(),
+            out.as_mut_ptr(),
+            out.len(),
+            s,
+        )
+    })
+}
+
+#[allow(clippy::too_many_arguments)]
+pub fn walk(
+    g: &G,
+    kind: u32,
+    image: &[u8],
+    root: u32,
+    levels: u32,
+    stack: &mut [u32],
+    scratch: &mut [u64],
+    blocks: &mut [u32],
+    records: &mut [u8],
+) -> Said {
+    said(|s| unsafe {
+        raw::kf_walk(
+            g.version,
+            g.blocksize,
+            g.agblocks,
+            g.agno,
+            g.high,
+            g.low,
+            kind,
+            image.as_ptr(),
+            image.len(),
+            root,
+            levels,
+            stack.as_mut_ptr(),
+            stack.len(),
+            scratch.as_mut_ptr(),
+            scratch.len(),
+            blocks.as_mut_ptr(),
+            blocks.len(),
+            records.as_mut_ptr(),
+            records.len(),
+            s,
+        )
+    })
+}
+
+/// Which edit of the reverse map.
+#[derive(Debug, Clone, Copy, PartialEq, Eq)]
+pub enum Edit {
+    Insert,
+    InsertShared,
+    Remove,
+}
+
+impl Edit {
+    pub const ALL: [Edit; 3] = [Edit::Insert, Edit::InsertShared, Edit::Remove];
+
+    pub fn name(self) -> &'static str {
+        match self {
+            Edit::Insert => "insert",
+            Edit::InsertShared => "insert_shared",
+            Edit::Remove => "remove",
+        }
+    }
+}
+
+pub fn edit(e: Edit, old: &[u8], x: Rmap, new: &mut [u8]) -> Said {
+    let f = match e {
+        Edit::Insert => raw::kf_insert,
+        Edit::InsertShared => raw::kf_insert_shared,
+        Edit::Remove => raw::kf_remove,
+    };
+    said(|s| unsafe {
+        f(
+            old.as_ptr(),
+            old.len(),
+            x.startblock,
+            x.blockcount,
+            x.owner as u64,
+            x.offset,
+            new.as_mut_ptr(),
+            new.len(),
+            s,
+        )
+    })
+}
+
+pub fn release(old: &[u8], start: u32, count: u32, new: &mut [u8], free: &mut [u8]) -> Said {
+    said(|s| unsafe {
+        raw::kf_release(
+            old.as_ptr(),
+            old.len(),
+            start,
+            count,
+            new.as_mut_ptr(),
+            new.len(),
+            free.as_mut_ptr(),
+            free.len(),
+            s,
+        )
+    })
+}
+
+pub fn let_go(
+    map: &[u8],
+    counts: &[u8],
+    x: Rmap,
+    new_map: &mut [u8],
+    new_counts: &mut [u8],
+    free: &mut [u8],
+) -> Said {
+    said(|s| unsafe {
+        raw::kf_let_go(
+            map.as_ptr(),
+            map.len(),
+            counts.as_ptr(),
+            counts.len(),
+            x.startblock,
+            x.blockcount,
+            x.owner as u64,
+            x.offset,
+            new_map.as_mut_ptr(),
+            new_map.len(),
+            new_counts.as_mut_ptr(),
+            new_counts.len(),
+            free.as_mut_ptr(),
+            free.len(),
+            s,
+        )
+    })
+}

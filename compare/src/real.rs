@@ -1,0 +1,265 @@
+//! Trees of real volumes: the walk gives the records and blocks that another
+//! tool printed, and so does the original.
+//!
+//! A `.case` file has a geometry and blocks in hex, its `.expect` what was
+//! printed of them. The two group trees in scope are `rmap` and `refcount`. An
+//! `.ops` file is a history.
+
+use crate::edits::agreeing;
+use crate::library::{self, Edit};
+use crate::lists::{count_bytes, Count, STAGING};
+use oracle::rmap::{Rmap, OFF_ATTR_FORK, OFF_BMBT_BLOCK, OFF_UNWRITTEN};
+use oracle::{bare, paper, Geometry, Tree};
+use std::fs;
+
+/// A tree of a volume, and what it holds.
+pub struct RealTree {
+    pub g: Geometry,
+    pub tree: Tree,
+    pub root: u32,
+    pub levels: u32,
+    /// Number and bytes.
+    pub stored: Vec<(u32, Vec<u8>)>,
+    /// By level, leaves first.
+    pub blocks: Vec<u32>,
+    pub records: Vec<u8>,
+}
+
+fn number<T: std::str::FromStr>(w: &str) -> T {
+    w.parse().unwrap_or_else(|_| panic!("no number: {w}"))
+}
+
+fn unhex(s: &str) -> Vec<u8> {
+    (0..s.len() / 2)
+        .map(|i| u8::from_str_radix(&s[2 * i..2 * i + 2], 16).expect("hex"))
+        .collect()
+}
+
+fn kind(name: &str) -> Option<Tree> {
+    match name {
+        "rmap" => Some(Tree::Rmap),
+        "refc" | "refcount" => Some(Tree::Refcount),
+        _ => None,
+    }
+}
+
+/// The trees in scope of a case.
+pub fn read(case: &str) -> Vec<RealTree> {
+    let text = fs::read_to_string(case).unwrap_or_else(|e| panic!("{case}: {e}"));
+    let expect = case
+        .strip_suffix(".case")
+        .expect("a .case file")
+        .to_string()
+        + ".expect";
+    let expect = fs::read_to_string(&expect).unwrap_or_else(|e| panic!("{expect}: {e}"));
+    let mut g = Geometry::v5(512);
+    let mut all: Vec<(String, RealTree)> = Vec::new();
+    for line in text.lines().filter(|l| !l.starts_with('#')) {
+        let w: Vec<&str> = line.split_whitespace().collect();
+        match w[..] {
+            ["version", n] => g.version = number(n),
+            ["blocksize", n] => g.block_size = number(n),
+            ["agblocks", n] => g.agblocks = number(n),
+            ["agno", n] => g.agno = number(n),
+            ["uuid", h] => g.meta_uuid = unhex(h).try_into().expect("16 bytes"),
+            ["tree", name, "root", root, "levels", levels] => all.push((
+                name.to_string(),
+                RealTree {
+                    g,
+                    tree: kind(name).unwrap_or(Tree::Rmap),
+                    root: number(root),
+                    levels: number(levels),
+                    stored: vec![],
+                    blocks: vec![],
+                    records: vec![],
+                },
+            )),
+            ["block", n, h] => {
+                let t = &mut all.last_mut().expect("a tree").1;
+                t.stored.push((number(n), unhex(h)));
+            }
+            _ => panic!("{case}: {line}"),
+        }
+    }
+    let mut at = None;
+    for line in expect.lines().filter(|l| !l.starts_with('#')) {
+        let w: Vec<&str> = line.split_whitespace().collect();
+        match w[0] {
+            "tree" => at = all.iter().position(|(n, _)| n == w[1]),
+            "level" => {
+                let t = &mut all[at.expect("a tree")].1;
+                t.blocks.extend(w[2..].iter().map(|n| number::<u32>(n)));
+            }
+            "rec" => {
+                let (name, t) = &mut all[at.expect("a tree")];
+                match kind(name) {
+                    Some(Tree::Rmap) => {
+                        let flag = |i: usize, f: u64| if w[i] == "1" { f } else { 0 };
+                        let r = Rmap {
+                            startblock: number(w[1]),
+                            blockcount: number(w[2]),
+                            owner: number(w[3]),
+                            offset: number::<u64>(w[4])
+                                | flag(5, OFF_UNWRITTEN)
+                                | flag(6, OFF_ATTR_FORK)
+                                | flag(7, OFF_BMBT_BLOCK),
+                        };
+                        t.records.extend(bare::rmap_bytes(&[r]));
+                    }
+                    Some(Tree::Refcount) => {
+                        let staging = if w[4] == "1" { STAGING } else { 0 };
+                        let c = Count {
+                            start: number::<u32>(w[1]) | staging,
+                            count: number(w[2]),
+                            owners: number(w[3]),
+                        };
+                        t.records.extend(count_bytes(&[c]));
+                    }
+                    None => (),
+                }
+            }
+            _ => (),
+        }
+    }
+    all.retain(|(n, _)| kind(n).is_some());
+    all.into_iter().map(|(_, t)| t).collect()
+}
+
+impl RealTree {
+    /// The group's image up to its last block; other blocks are zero.
+    pub fn image(&self) -> Vec<u8> {
+        let size = self.g.block_size as usize;
+        let last = self.stored.iter().map(|s| s.0).max().expect("a block") as usize;
+        let mut image = vec![0; (last + 1) * size];
+        for (n, b) in &self.stored {
+            image[*n as usize * size..][..size].copy_from_slice(b);
+        }
+        image
+    }
+}
+
+/// The lists of a group as a history goes on.
+#[derive(Default)]
+struct Group {
+    map: Vec<u8>,
+    counts: Vec<u8>,
+    free: Vec<u8>,
+}
+
+impl Group {
+    fn take(&mut self, e: Edit, x: Rmap) {
+        let mut new = vec![0; self.map.len() + 24];
+        let said = library::edit(e, &self.map, x, &mut new);
+        assert_eq!(said.number, 0, "{e:?} {x:?}");
+        new.truncate(said.figures[0] as usize);
+        self.map = new;
+    }
+
+    fn go(&mut self, x: Rmap) {
+        let (mut map, mut counts) = (
+            vec![0; self.map.len() + 24],
+            vec![0; self.counts.len() + 24],
+        );
+        let mut free = vec![0; self.counts.len() + 8];
+        let said = library::let_go(&self.map, &self.counts, x, &mut map, &mut counts, &mut free);
+        assert_eq!(said.number, 0, "let_go {x:?}");
+        map.truncate(said.figures[0] as usize);
+        counts.truncate(said.figures[1] as usize);
+        free.truncate(said.figures[2] as usize);
+        (self.map, self.counts) = (map, counts);
+        self.free.extend(free);
+    }
+}
+
+/// A history of a real volume: after every step the lists and the blocks freed
+/// are those of the volume. The counts of a take of held blocks, which the
+/// library does not raise, are made to agree with the map.
+fn history(file: &str) {
+    let text = fs::read_to_string(file).unwrap_or_else(|e| panic!("{file}: {e}"));
+    let steps: Vec<&str> = text.split("step ").skip(1).collect();
+    let mut g = Group::default();
+    let mut changes = 0;
+    for step in &steps {
+        let mut due = Group::default();
+        g.free.clear();
+        for line in step.lines().skip(1) {
+            let w: Vec<&str> = line.split_whitespace().collect();
+            let extent = || Rmap {
+                startblock: number(w[1]),
+                blockcount: number(w[2]),
+                owner: number(w[3]),
+                offset: number(w[4]),
+            };
+            changes += u32::from(w.len() == 5 && w[0] != "rmap");
+            match w[0] {
+                "go" => g.go(extent()),
+                "take" => g.take(Edit::Insert, extent()),
+                "take_shared" => g.take(Edit::InsertShared, extent()),
+                "share" => {
+                    g.take(Edit::InsertShared, extent());
+                    g.counts = count_bytes(&agreeing(&bare::rmap_list(&g.map)));
+                }
+                "free" => {
+                    due.free.extend(number::<u32>(w[1]).to_be_bytes());
+                    due.free.extend(number::<u32>(w[2]).to_be_bytes());
+                }
+                "rmap" => due.map.extend(bare::rmap_bytes(&[extent()])),
+                "refc" => due.counts.extend(count_bytes(&[Count {
+                    start: number(w[1]),
+                    count: number(w[2]),
+                    owners: number(w[3]),
+                }])),
+                _ => panic!("{file}: {line}"),
+            }
+        }
+        let name = step.lines().next().unwrap_or_default();
+        assert!(g.map == due.map, "{file}: step {name}: the map");
+        assert!(g.counts == due.counts, "{file}: step {name}: the counts");
+        assert!(g.free == due.free, "{file}: step {name}: the blocks freed");
+    }
+    println!(
+        "history of {} steps, {changes} changes: lists and freed blocks as in the volume",
+        steps.len()
+    );
+}
+
+pub fn real(cases: &[String]) {
+    for case in cases {
+        if case.ends_with(".ops") {
+            history(case);
+            continue;
+        }
+        for t in read(case) {
+            let image = t.image();
+            let stack = 2 * t.levels as usize * paper::node_capacity(&t.g, t.tree) as usize;
+            let mut stack = vec![1; stack];
+            let mut scratch = vec![1; t.blocks.len()];
+            let mut blocks = vec![1; t.blocks.len()];
+            let mut records = vec![1; t.records.len()];
+            let said = library::walk(
+                &library::g(&t.g),
+                library::kind(t.tree),
+                &image,
+                t.root,
+                t.levels,
+                &mut stack,
+                &mut scratch,
+                &mut blocks,
+                &mut records,
+            );
+            let n = t.blocks.len() as u64;
+            let count = (t.records.len() / t.tree.record_len()) as u64;
+            assert_eq!(said.number, 0, "{case} {:?} {:?}", t.tree, said.figures);
+            assert_eq!(said.figures, [n, count, t.records.len() as u64, 0]);
+            assert!(blocks == t.blocks, "{case} {:?}: blocks", t.tree);
+            assert!(records == t.records, "{case} {:?}: records", t.tree);
+            let a = bare::walk_blocks(&t.g, t.tree, &image, t.root, t.levels);
+            let a = a.outcome.accepted().expect("the original walks it");
+            assert!(a.blocks == t.blocks && a.records == t.records);
+            println!(
+                "{:?} tree of {n} blocks: {count} records as printed",
+                t.tree
+            );
+        }
+    }
+}

@@ -1,0 +1,408 @@
+//! Cases with the original's answers, for the program `replay`.
+//!
+//! A case is 32 numbers of 4 bytes, big-endian, then bytes:
+//!
+//! | number | |
+//! |---|---|
+//! | 0 | the call: 1 crc32c, 2 check_rmaps, 3 check_refcounts, 4 check_block, 5 plan, 6 build, 7 walk, 8 insert, 9 insert_shared, 10 remove, 11 release, 12 let_go, 13 a walk over blocks that are given one by one; 0 after the last case |
+//! | 1 | the answer |
+//! | 2 to 9 | the four figures, high half first |
+//! | 10 to 13 | version, block size, agblocks, agno |
+//! | 14 to 17 | the UUID |
+//! | 18 | the kind: 0 or 1 |
+//! | 19 | start, block or root |
+//! | 20 | count, level or levels |
+//! | 21, 22 | owner; the records of a plan; in 21 the blocks that a walk of 13 is given |
+//! | 23, 24 | offset |
+//! | 25, 26 | bytes of the two inputs |
+//! | 27, 28, 29 | bytes of the three outputs; of a walk 29 is 1 where it leaves both scratches zero, 0 where they are untouched |
+//! | 30, 31 | of a walk: places of the stack and of the level scratch |
+//!
+//! Then the inputs, then what each output holds afterwards, all of it: outputs
+//! are lent filled with the byte 0xA5. The second input of a build is its
+//! block numbers. What a plan and a walk leave in the nine places and in the
+//! block list stands where an input would: the first of a plan, the second of
+//! a walk. After the inputs of 13 come its blocks, each as its place in the
+//! image and its bytes.
+
+use crate::blocks;
+use crate::edits::expect;
+use crate::library::{self, Edit};
+use crate::lists;
+use crate::real;
+use crate::trees;
+use oracle::bare::WalkAnswer;
+use oracle::refusal::Outcome;
+use oracle::rmap::Rmap;
+use oracle::sample::Random;
+use oracle::{bare, paper, Geometry, Tree};
+use std::collections::BTreeMap;
+
+const FILL: u8 = 0xA5;
+
+#[derive(Default)]
+struct Case {
+    head: [u32; 32],
+    body: Vec<u8>,
+}
+
+fn halves(n: u64) -> [u32; 2] {
+    [(n >> 32) as u32, n as u32]
+}
+
+impl Case {
+    fn new(call: u32, (number, figures): (u32, [u64; 4])) -> Case {
+        let mut c = Case::default();
+        c.head[0] = call;
+        c.head[1] = number;
+        for (i, f) in figures.into_iter().enumerate() {
+            c.head[2 + 2 * i..4 + 2 * i].copy_from_slice(&halves(f));
+        }
+        c
+    }
+
+    fn geometry(mut self, g: &Geometry, tree: Tree) -> Case {
+        self.head[10..14].copy_from_slice(&[
+            g.version as u32,
+            g.block_size as u32,
+            g.agblocks,
+            g.agno,
+        ]);
+        for i in 0..4 {
+            let w = g.meta_uuid[4 * i..4 * i + 4].try_into().expect("4 bytes");
+            self.head[14 + i] = u32::from_be_bytes(w);
+        }
+        self.head[18] = library::kind(tree);
+        self
+    }
+
+    fn two(mut self, a: u32, b: u32) -> Case {
+        self.head[19..21].copy_from_slice(&[a, b]);
+        self
+    }
+
+    fn extent(mut self, x: Rmap) -> Case {
+        self.head[19..21].copy_from_slice(&[x.startblock, x.blockcount]);
+        self.head[21..23].copy_from_slice(&halves(x.owner as u64));
+        self.head[23..25].copy_from_slice(&halves(x.offset));
+        self
+    }
+
+    /// The inputs, which come before the outputs.
+    fn given(mut self, a: &[u8], b: &[u8]) -> Case {
+        self.head[25..27].copy_from_slice(&[a.len() as u32, b.len() as u32]);
+        self.body.extend(a);
+        self.body.extend(b);
+        self
+    }
+
+    /// Output i has `room` bytes and begins with `result`.
+    fn output(mut self, i: usize, room: usize, result: &[u8]) -> Case {
+        assert!(result.len() <= room);
+        self.head[27 + i] = room as u32;
+        self.body.extend(result);
+        self.body.extend(vec![FILL; room - result.len()]);
+        self
+    }
+}
+
+#[derive(Default)]
+struct Cases {
+    all: Vec<Case>,
+    seen: BTreeMap<(u32, u32), usize>,
+}
+
+impl Cases {
+    /// Are there not yet `most` cases of the call with that answer?
+    fn wants(&self, call: u32, number: u32, most: usize) -> bool {
+        self.seen.get(&(call, number)).is_none_or(|&n| n < most)
+    }
+
+    fn add(&mut self, c: Case) {
+        *self.seen.entry((c.head[0], c.head[1])).or_default() += 1;
+        self.all.push(c);
+    }
+}
+
+fn number_bytes(list: &[u32]) -> Vec<u8> {
+    list.iter().flat_map(|n| n.to_be_bytes()).collect()
+}
+
+fn list_cases(r: &mut Random, cases: &mut Cases) {
+    for n in [0, 1, 3, 9, 32, 100] {
+        let b = r.bytes(n);
+        let crc = crc32c::crc32c(&b);
+        cases.add(Case::new(1, (crc, [0; 4])).given(&b, &[]));
+    }
+    let bad = Rmap {
+        startblock: 0,
+        blockcount: 0,
+        owner: 0,
+        offset: 0,
+    };
+    let list_answer = |n: Option<u8>| match n {
+        Some(22) => 0,
+        n => u32::from(n.expect("an empty extent is refused")),
+    };
+    for _ in 0..2000 {
+        let mut b = bare::rmap_bytes(&lists::rmaps(r));
+        if r.below(20) == 0 {
+            b.push(7);
+        }
+        let n = list_answer(paper::insert(&b, bad, 0).number());
+        if cases.wants(2, n, 6) {
+            cases.add(Case::new(2, (n, [0; 4])).given(&b, &[]));
+        }
+        let mut b = lists::count_bytes(&lists::counts(r));
+        if r.below(20) == 0 {
+            b.push(7);
+        }
+        let n = list_answer(paper::release(&b, 0, 0, 0, 0).number());
+        if cases.wants(3, n, 6) {
+            cases.add(Case::new(3, (n, [0; 4])).given(&b, &[]));
+        }
+    }
+}
+
+fn edit_cases(r: &mut Random, cases: &mut Cases) {
+    for _ in 0..20_000 {
+        let list = lists::rmaps(r);
+        let mut old = bare::rmap_bytes(&list);
+        if r.below(100) == 0 {
+            old.push(1);
+        }
+        let x = lists::extent(r, &list);
+        for (e, call) in Edit::ALL.into_iter().zip(8..) {
+            let room = match r.below(4) {
+                0 => r.below(old.len() as u64 + 25) as usize,
+                _ => old.len() + r.below(30) as usize,
+            };
+            let o = match e {
+                Edit::Insert => paper::insert(&old, x, room),
+                Edit::InsertShared => paper::insert_shared(&old, x, room),
+                Edit::Remove => paper::remove(&old, x, room),
+            };
+            let said = expect(&o, |v| [v.len() as u64, 0, 0, 0]);
+            if cases.wants(call, said.0, if said.0 == 0 { 30 } else { 5 }) {
+                let new = o.accepted().unwrap_or_default();
+                let c = Case::new(call, said).extent(x).given(&old, &[]);
+                cases.add(c.output(0, room, &new));
+            }
+        }
+        let c = lists::counts(r);
+        let mut old = lists::count_bytes(&c);
+        if r.below(100) == 0 {
+            old.push(1);
+        }
+        let (start, count) = lists::run(r, &c);
+        let (room, free_room) = match r.below(4) {
+            0 => (r.below(old.len() as u64 + 25) as usize, 24),
+            1 => (old.len() + 24, r.below(40) as usize),
+            _ => (old.len() + 24, 80),
+        };
+        let o = paper::release(&old, start, count, room, free_room);
+        let said = expect(&o, |v| [v.counts.len() as u64, v.free.len() as u64, 0, 0]);
+        if cases.wants(11, said.0, if said.0 == 0 { 40 } else { 5 }) {
+            let (n, f) = o
+                .accepted()
+                .map_or((vec![], vec![]), |v| (v.counts, v.free));
+            let c = Case::new(11, said).two(start, count).given(&old, &[]);
+            cases.add(c.output(0, room, &n).output(1, free_room, &f));
+        }
+        // The whole letting go.
+        let map = bare::rmap_bytes(&list);
+        let room = [
+            map.len() + r.below(30) as usize,
+            old.len() + r.below(30) as usize,
+            r.below(60) as usize,
+        ];
+        let o = paper::let_go(&map, &old, x, room[0], room[1], room[2]);
+        let said = expect(&o, |v| {
+            let r = &v.released;
+            [
+                v.rmap.len() as u64,
+                r.counts.len() as u64,
+                r.free.len() as u64,
+                0,
+            ]
+        });
+        if cases.wants(12, said.0, if said.0 == 0 { 30 } else { 5 }) {
+            let left = match o.accepted() {
+                None => [vec![], vec![], vec![]],
+                Some(v) => [v.rmap, v.released.counts, v.released.free],
+            };
+            let mut c = Case::new(12, said).extent(x).given(&map, &old);
+            for i in 0..3 {
+                c = c.output(i, room[i], &left[i]);
+            }
+            cases.add(c);
+        }
+    }
+}
+
+fn block_cases(r: &mut Random, cases: &mut Cases) {
+    for _ in 0..4000 {
+        let bad = r.below(10) == 0;
+        let g = blocks::geometry(r, bad);
+        let tree = r.pick(&Tree::BOTH);
+        let (block, level, b) = blocks::block(r, &g, tree, 512);
+        let o = paper::parse_block(&g, tree, &b, block, level);
+        let said = expect(&o, blocks::header_figures);
+        if cases.wants(4, said.0, 4) {
+            let c = Case::new(4, said).geometry(&g, tree);
+            cases.add(c.two(block, u32::from(level)).given(&b, &[]));
+        }
+        let bits = r.below(65);
+        let n = if bits == 0 {
+            0
+        } else {
+            r.next() >> (64 - bits)
+        };
+        let o = paper::plan(&g, tree, n);
+        let said = expect(&o, |v| [v.len() as u64, v.iter().sum(), 0, 0]);
+        if cases.wants(5, said.0, 12) {
+            let mut levels = o.accepted().unwrap_or_default();
+            levels.resize(9, 0);
+            let levels: Vec<u8> = levels.iter().flat_map(|n| n.to_be_bytes()).collect();
+            let mut c = Case::new(5, said).geometry(&g, tree);
+            c.head[21..23].copy_from_slice(&halves(n));
+            cases.add(c.given(&levels, &[]));
+        }
+    }
+}
+
+fn tree_cases(r: &mut Random, cases: &mut Cases) {
+    for _ in 0..3000 {
+        let mut g = blocks::geometry(r, false);
+        g.block_size = 512;
+        if r.below(20) == 0 {
+            g = blocks::geometry(r, true);
+        }
+        let tree = r.pick(&Tree::BOTH);
+        let n = r.below(90) as usize;
+        let mut list = trees::list(r, tree, n);
+        match r.below(16) {
+            0 if !list.is_empty() => {
+                let at = r.below(list.len() as u64) as usize;
+                list[at] ^= 1 << r.below(8);
+            }
+            1 => list.push(0),
+            _ => (),
+        }
+        let total = paper::plan(&g, tree, n as u64)
+            .accepted()
+            .map_or(1, |p| p.iter().sum::<u64>()) as usize;
+        let given = if r.below(10) == 0 { total + 1 } else { total };
+        let numbers: Vec<u32> = (0..given).map(|_| r.next() as u32).collect();
+        let mut room = total * 512 + r.below(20) as usize;
+        if r.below(10) == 0 {
+            room -= 1 + r.below(20).min(room as u64 - 1) as usize;
+        }
+        let o = paper::build(&g, tree, &list, &numbers, room);
+        let said = expect(&o, |v| {
+            [v.len() as u64 / g.block_size, v.len() as u64, 0, 0]
+        });
+        if cases.wants(6, said.0, if said.0 == 0 { 8 } else { 2 }) {
+            let c = Case::new(6, said).geometry(&g, tree);
+            let c = c.given(&list, &number_bytes(&numbers));
+            cases.add(c.output(0, room, &o.accepted().unwrap_or_default()));
+        }
+    }
+    for _ in 0..3000 {
+        let w = trees::small_walk(r);
+        let lent = paper::Lent {
+            record_bytes: w.bytes,
+            block_places: w.blocks,
+            stack_places: w.stack,
+            scratch_places: w.scratch,
+        };
+        let WalkAnswer { visits, outcome } =
+            paper::walk_blocks(&w.g, w.tree, &w.image, w.root, w.levels, &lent);
+        let mut said = expect(&outcome, |a| {
+            let n = a.records.len() as u64;
+            [a.blocks.len() as u64, n / w.tree.record_len() as u64, n, 0]
+        });
+        if said.0 != 0 {
+            said.1[2] = visits;
+        }
+        if !cases.wants(7, said.0, if said.0 == 0 { 8 } else { 2 }) {
+            continue;
+        }
+        let early = matches!(said.0, 1 | 11 | 12);
+        let (list, records) = match outcome {
+            Outcome::Accepted(a) => (a.blocks, a.records),
+            _ if early => (vec![], vec![]),
+            _ => (vec![0; w.blocks], vec![0; w.bytes]),
+        };
+        let c = Case::new(7, said).geometry(&w.g, w.tree);
+        let mut places = number_bytes(&list);
+        places.resize(4 * w.blocks, FILL);
+        let c = c.two(w.root, w.levels).given(&w.image, &places);
+        let mut c = c.output(0, w.bytes, &records);
+        c.head[29..].copy_from_slice(&[u32::from(!early), w.stack as u32, w.scratch as u32]);
+        cases.add(c);
+    }
+}
+
+/// Trees of real volumes: each of their blocks checked, and the walk as far
+/// as the group's image is small.
+fn real_cases(files: &[String], cases: &mut Cases) {
+    for t in files.iter().flat_map(|f| real::read(f)) {
+        for (n, b) in &t.stored {
+            let level = u16::from(b[4]) * 256 + u16::from(b[5]);
+            let o = paper::parse_block(&t.g, t.tree, b, *n, level);
+            let said = expect(&o, blocks::header_figures);
+            assert_eq!(said.0, 0, "a block of a real volume is good");
+            let c = Case::new(4, said).geometry(&t.g, t.tree);
+            cases.add(c.two(*n, u32::from(level)).given(b, &[]));
+        }
+        let last = t.stored.iter().map(|s| s.0).max().expect("a block");
+        if (u64::from(last) + 1) * t.g.block_size > 1460 * 2048 {
+            println!("left out: {:?} tree, blocks up to {last}", t.tree);
+            continue;
+        }
+        let n = t.records.len();
+        let figures = [
+            t.blocks.len() as u64,
+            (n / t.tree.record_len()) as u64,
+            n as u64,
+            0,
+        ];
+        let c = Case::new(13, (0, figures)).geometry(&t.g, t.tree);
+        let c = c.two(t.root, t.levels);
+        let mut c = c.given(&[], &number_bytes(&t.blocks));
+        for (n, b) in &t.stored {
+            let place = n * t.g.block_size as u32;
+            c.body.extend(place.to_be_bytes());
+            c.body.extend(b);
+        }
+        let mut c = c.output(0, n, &t.records);
+        let stack = 2 * t.levels as usize * paper::node_capacity(&t.g, t.tree) as usize;
+        c.head[21] = t.stored.len() as u32;
+        c.head[29..].copy_from_slice(&[1, stack as u32, t.blocks.len() as u32]);
+        cases.add(c);
+    }
+}
+
+/// `sample FILE [CASE ..]`.
+pub fn sample(words: &[String]) {
+    let (file, real) = words.split_first().expect("a file to write");
+    let mut r = Random(2026);
+    let mut cases = Cases::default();
+    list_cases(&mut r, &mut cases);
+    block_cases(&mut r, &mut cases);
+    edit_cases(&mut r, &mut cases);
+    tree_cases(&mut r, &mut cases);
+    real_cases(real, &mut cases);
+    let mut out = Vec::new();
+    for c in &cases.all {
+        out.extend(number_bytes(&c.head));
+        out.extend(&c.body);
+    }
+    out.extend([0; 128]);
+    std::fs::write(file, &out).unwrap_or_else(|e| panic!("{file}: {e}"));
+    for ((call, number), n) in &cases.seen {
+        println!("call {call} answer {number}: {n}");
+    }
+    println!("{} cases, {} bytes", cases.all.len(), out.len());
+}

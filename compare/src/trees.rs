@@ -1,0 +1,568 @@
+//! Plans, built trees and walks.
+
+use crate::blocks::{geometry, seal};
+use crate::edits::{bytes, expect, same};
+use crate::lent::{hex, Lent};
+use crate::library;
+use crate::lists;
+use crate::tally::{differ, Tally};
+use oracle::bare::{self, WalkAnswer};
+use oracle::paper;
+use oracle::refusal::Outcome;
+use oracle::sample::Random;
+use oracle::{Geometry, Tree};
+
+fn one_plan(g: &Geometry, tree: Tree, records: u64, tally: &mut Tally) {
+    let input = || format!("{g:?} {tree:?} records {records}");
+    let want = paper::plan(g, tree, records);
+    let mut levels = [0x5A5A_5A5A; 9];
+    let got = library::plan(&library::g(g), library::kind(tree), records, &mut levels);
+    same(
+        "plan",
+        &got,
+        expect(&want, |v| [v.len() as u64, v.iter().sum(), 0, 0]),
+        &input,
+    );
+    let mut due = want.accepted().unwrap_or_default();
+    due.resize(9, 0);
+    if levels[..] != due[..] {
+        let (l, o) = (format!("{levels:?}"), format!("{due:?}"));
+        differ("plan", "levels", &l, &o, &input());
+    }
+    tally.add("plan", got.number);
+}
+
+pub fn plans(r: &mut Random, scale: u64, tally: &mut Tally) {
+    // The worked ones and their neighbours.
+    for tree in Tree::BOTH {
+        for size in [512u64, 1024, 2048, 4096, 8192, 16384, 32768, 65536] {
+            for version in [4, 5] {
+                let g = Geometry {
+                    version,
+                    ..Geometry::v5(size)
+                };
+                let header = if version == 5 { 56 } else { 16 };
+                let leaf = (size - header) / tree.record_len() as u64;
+                let node = paper::node_capacity(&g, tree);
+                let mut full = leaf;
+                one_plan(&g, tree, 0, tally);
+                for _ in 0..12 {
+                    for n in [full - 1, full, full.saturating_add(1)] {
+                        one_plan(&g, tree, n, tally);
+                    }
+                    full = full.saturating_mul(node);
+                }
+                one_plan(&g, tree, u64::MAX, tally);
+            }
+        }
+    }
+    for _ in 0..50_000 * scale {
+        let bad = r.below(20) == 0;
+        let g = geometry(r, bad);
+        let bits = r.below(65);
+        let n = if bits == 0 {
+            0
+        } else {
+            r.next() >> (64 - bits)
+        };
+        one_plan(&g, r.pick(&Tree::BOTH), n, tally);
+    }
+}
+
+/// A list of n records that is accepted; of the reverse map some that overlap,
+/// reserved owners and flags.
+pub fn list(r: &mut Random, tree: Tree, n: usize) -> Vec<u8> {
+    match tree {
+        Tree::Rmap => {
+            let wide = 3 * n as u64 + 10;
+            let mut list = Vec::new();
+            while list.len() < n {
+                let mut x = lists::rmap(r, false);
+                x.startblock = r.below(wide) as u32;
+                if r.below(20) == 0 {
+                    x.blockcount = 1 + r.below(wide) as u32;
+                }
+                if lists::good(&x) {
+                    list.push(x);
+                }
+            }
+            list.sort_by_key(lists::key);
+            bare::rmap_bytes(&list)
+        }
+        Tree::Refcount => {
+            let mut list = Vec::new();
+            let mut at = 0u32;
+            let shared = n - (n * r.below(5) as usize) / 10;
+            for i in 0..n {
+                if i == shared {
+                    at = 0;
+                }
+                at += r.below(3) as u32;
+                let count = 1 + r.below(4) as u32;
+                list.push(lists::Count {
+                    start: at | if i < shared { 0 } else { lists::STAGING },
+                    count,
+                    owners: if i < shared { 2 + r.below(3) as u32 } else { 1 },
+                });
+                at += count;
+            }
+            lists::count_bytes(&list)
+        }
+    }
+}
+
+fn one_build(
+    g: &Geometry,
+    tree: Tree,
+    list: &[u8],
+    numbers: &[u32],
+    room: usize,
+    tally: &mut Tally,
+) -> Option<Vec<u8>> {
+    let input = || {
+        format!(
+            "build {g:?} {tree:?} room {room} numbers {numbers:?} list {}",
+            hex(list)
+        )
+    };
+    let want = paper::build(g, tree, list, numbers, room);
+    let mut out = Lent::<u8>::new(room);
+    let kind = library::kind(tree);
+    let got = library::build(&library::g(g), kind, list, numbers, out.part());
+    same(
+        "build",
+        &got,
+        expect(&want, |v| {
+            [v.len() as u64 / g.block_size, v.len() as u64, 0, 0]
+        }),
+        &input,
+    );
+    let left = want.accepted();
+    let due = left.as_deref().unwrap_or_default();
+    bytes("build", "output", out.holds(due), &input);
+    tally.add("build", got.number);
+    left
+}
+
+/// How many records a tree to try has: around full leaves and full nodes.
+fn sizes(r: &mut Random, g: &Geometry, tree: Tree) -> usize {
+    // Block sizes past the largest are for question 1 alone.
+    let size = g.block_size.min(4096) as usize;
+    let leaf = size.saturating_sub(56) / tree.record_len();
+    let node = size.saturating_sub(56) / tree.entry_len();
+    let around = |n: usize, r: &mut Random| (n + r.below(3) as usize).saturating_sub(1);
+    match r.below(16) {
+        0 => 0,
+        1 => 1,
+        2..=5 => around(leaf, r),
+        6..=9 => around(leaf * (1 + r.below(5) as usize), r),
+        10 | 11 => r.below(6 * leaf as u64 + 1) as usize,
+        12 if g.block_size <= 1024 => around(leaf * node, r),
+        13 if g.block_size <= 512 => around(leaf * node * 2, r),
+        _ => r.below(3 * leaf as u64 + 1) as usize,
+    }
+}
+
+/// Distinct numbers below `most`, not in order.
+fn numbers(r: &mut Random, n: usize, most: usize) -> Vec<u32> {
+    let mut all: Vec<u32> = (0..most as u32).collect();
+    for i in 0..n {
+        let j = i + r.below((most - i) as u64) as usize;
+        all.swap(i, j);
+    }
+    all.truncate(n);
+    all
+}
+
+fn planned(g: &Geometry, tree: Tree, n: usize) -> Vec<u64> {
+    paper::plan(g, tree, n as u64)
+        .accepted()
+        .unwrap_or_default()
+}
+
+pub fn builds(r: &mut Random, scale: u64, tally: &mut Tally) {
+    for _ in 0..15_000 * scale {
+        let bad = r.below(50) == 0;
+        let g = geometry(r, bad);
+        let tree = r.pick(&Tree::BOTH);
+        let n = sizes(r, &g, tree);
+        let mut list = list(r, tree, n);
+        match r.below(20) {
+            0 if !list.is_empty() => {
+                let at = r.below(list.len() as u64) as usize;
+                list[at] ^= 1 << r.below(8);
+            }
+            1 => list.truncate(list.len().saturating_sub(1 + r.below(11) as usize)),
+            2 => list.push(0),
+            _ => (),
+        }
+        let total = planned(&g, tree, list.len() / tree.record_len())
+            .iter()
+            .sum::<u64>() as usize;
+        let mut given = match r.below(12) {
+            0 => total + 1,
+            1 => total.saturating_sub(1),
+            2 => 0,
+            _ => total,
+        };
+        if given > 100_000 {
+            given = 3;
+        }
+        let mut at: Vec<u32> = (0..given).map(|_| r.next() as u32).collect();
+        if r.below(10) == 0 && given > 1 {
+            at[0] = at[1];
+        }
+        let exact = (total.min(100_000) as u64 * g.block_size.min(65536)) as usize;
+        let room = match r.below(8) {
+            0 => exact.saturating_sub(1),
+            1 => exact.saturating_sub(r.below(exact as u64 + 1) as usize),
+            2 => 0,
+            3 => exact + 1 + r.below(600) as usize,
+            _ => exact,
+        };
+        one_build(&g, tree, &list, &at, room, tally);
+    }
+}
+
+/// What a walk is lent, in places and bytes.
+#[derive(Debug, Clone, Copy)]
+struct Room {
+    stack: usize,
+    scratch: usize,
+    blocks: usize,
+    bytes: usize,
+}
+
+fn one_walk(
+    g: &Geometry,
+    tree: Tree,
+    image: &[u8],
+    root: u32,
+    levels: u32,
+    room: Room,
+    tally: &mut Tally,
+) {
+    let input = || {
+        format!(
+            "walk {g:?} {tree:?} root {root} levels {levels} {room:?} image {}",
+            hex(image)
+        )
+    };
+    let lent = paper::Lent {
+        record_bytes: room.bytes,
+        block_places: room.blocks,
+        stack_places: room.stack,
+        scratch_places: room.scratch,
+    };
+    let WalkAnswer { visits, outcome } = paper::walk_blocks(g, tree, image, root, levels, &lent);
+    let mut stack = Lent::<u32>::new(room.stack);
+    let mut scratch = Lent::<u64>::new(room.scratch);
+    let mut blocks = Lent::<u32>::new(room.blocks);
+    let mut records = Lent::<u8>::new(room.bytes);
+    let got = library::walk(
+        &library::g(g),
+        library::kind(tree),
+        image,
+        root,
+        levels,
+        stack.part(),
+        scratch.part(),
+        blocks.part(),
+        records.part(),
+    );
+    let width = tree.record_len() as u64;
+    let mut want = expect(&outcome, |w| {
+        let n = w.records.len() as u64;
+        [w.blocks.len() as u64, n / width, n, 0]
+    });
+    if want.0 != 0 {
+        want.1[2] = visits;
+    }
+    same("walk", &got, want, &input);
+    let (s, c, b, o) = match &outcome {
+        Outcome::Accepted(w) => {
+            assert_eq!(visits as usize, w.blocks.len());
+            let b = blocks.holds(&w.blocks);
+            (stack.zero(), scratch.zero(), b, records.holds(&w.records))
+        }
+        Outcome::Refused(r) if matches!(r.number, 11 | 12) || (r.number == 1 && visits == 0) => (
+            stack.untouched(),
+            scratch.untouched(),
+            blocks.untouched(),
+            records.untouched(),
+        ),
+        _ => (stack.zero(), scratch.zero(), blocks.zero(), records.zero()),
+    };
+    for (r, what) in [(s, "stack"), (c, "scratch"), (b, "blocks"), (o, "records")] {
+        bytes("walk", what, r, &input);
+    }
+    tally.add("walk", got.number);
+}
+
+pub fn walks(r: &mut Random, scale: u64, tally: &mut Tally) {
+    for _ in 0..8_000 * scale {
+        let mut g = geometry(r, false);
+        g.version = 5;
+        if !paper::geometry_holds(&g) {
+            continue;
+        }
+        if r.below(2) == 0 {
+            g.block_size = 512;
+        }
+        let tree = r.pick(&Tree::BOTH);
+        let n = sizes(r, &g, tree);
+        let list = list(r, tree, n);
+        let plan = planned(&g, tree, n);
+        let total = plan.iter().sum::<u64>() as usize;
+        let most = total + r.below(4) as usize;
+        let at = numbers(r, total, most);
+        let Some(out) = one_build(&g, tree, &list, &at, total * g.block_size as usize, tally)
+        else {
+            continue;
+        };
+        // A limit above, at and below the blocks of the tree.
+        g.agblocks = match r.below(4) {
+            0 => 0,
+            1 => total as u32,
+            2 => (total as u32).saturating_sub(1),
+            _ => g.agblocks.max(total as u32),
+        };
+        // The address goes by agblocks: seal the blocks anew where it changed.
+        let size = g.block_size as usize;
+        let mut image = r.bytes(size).repeat(most);
+        let address = |g: &Geometry, n: u32| {
+            (u64::from(g.agno) * u64::from(g.agblocks) + u64::from(n)) * g.block_size / 512
+        };
+        if !paper::geometry_holds(&g) {
+            g.agno = 0;
+        }
+        for (i, &n) in at.iter().enumerate() {
+            let mut b = out[i * size..(i + 1) * size].to_vec();
+            b[16..24].copy_from_slice(&address(&g, n).to_be_bytes());
+            b[48..52].copy_from_slice(&g.agno.to_be_bytes());
+            seal(&mut b);
+            image[n as usize * size..][..size].copy_from_slice(&b);
+        }
+        let root = *at.last().expect("a root");
+        let levels = plan.len() as u32;
+        let stack = 2 * levels as usize * paper::node_capacity(&g, tree) as usize;
+        let plenty = Room {
+            stack: stack + r.below(3) as usize,
+            scratch: total + 2,
+            blocks: total + 1,
+            bytes: list.len() + r.below(40) as usize,
+        };
+        one_walk(&g, tree, &image, root, levels, plenty, tally);
+        // Less memory.
+        let mut room = plenty;
+        match r.below(8) {
+            0 => room.stack = stack - 1,
+            1 => room.stack = stack,
+            2 => (room.blocks, room.scratch) = (total, total),
+            3 => (room.blocks, room.scratch) = (total, total - 1),
+            4 => room.blocks = r.below(total as u64) as usize,
+            5 => room.bytes = list.len(),
+            6 => room.bytes = list.len().saturating_sub(1),
+            _ => room.bytes = r.below(list.len() as u64 + 1) as usize,
+        }
+        one_walk(&g, tree, &image, root, levels, room, tally);
+        // Another root, other levels, the other tree, another geometry.
+        let (mut g2, mut t2, mut root2, mut levels2) = (g, tree, root, levels);
+        match r.below(9) {
+            0 => root2 = r.below(most as u64 + 2) as u32,
+            1 => root2 = r.pick(&[u32::MAX, most as u32, 1 << 31]),
+            2 => levels2 = levels + 1,
+            3 => levels2 = levels - 1,
+            4 => levels2 = r.pick(&[0, 10, u32::MAX, 9]),
+            5 => {
+                t2 = if tree == Tree::Rmap {
+                    Tree::Refcount
+                } else {
+                    Tree::Rmap
+                }
+            }
+            6 => g2.version = 4,
+            7 => g2.agno ^= 1,
+            _ => g2 = geometry(r, true),
+        }
+        let mut room = plenty;
+        room.stack = 2 * 10 * 200;
+        one_walk(&g2, t2, &image, root2, levels2, room, tally);
+        // A shorter image.
+        let short = image.len() - r.below(size as u64 + 1) as usize;
+        one_walk(&g, tree, &image[..short], root, levels, plenty, tally);
+        // Damage: a byte; or a field or a pointer, sealed again.
+        for _ in 0..3 {
+            let mut image = image.clone();
+            let n = at[r.below(total as u64) as usize] as usize;
+            let b = &mut image[n * size..][..size];
+            match r.below(8) {
+                0 => {
+                    let i = r.below(size as u64) as usize;
+                    b[i] ^= 1 << r.below(8);
+                }
+                1..=3 => {
+                    let i = r.below(56) as usize;
+                    b[i] = r.next() as u8;
+                    seal(b);
+                }
+                _ => {
+                    // Every pointer of a node to one block, to the node, or anywhere.
+                    let cap = paper::node_capacity(&g, tree) as usize;
+                    let keys = tree.entry_len() - 4;
+                    let to = r.pick(&[n as u32, at[0], at[total / 2], root, most as u32, u32::MAX]);
+                    let all = r.below(2) == 0;
+                    if b[4..6] != [0, 0] {
+                        let count = usize::from(b[6]) * 256 + usize::from(b[7]);
+                        for i in 0..count {
+                            if all || r.below(count as u64) == 0 {
+                                let p = 56 + cap * keys + 4 * i;
+                                b[p..p + 4].copy_from_slice(&to.to_be_bytes());
+                            }
+                        }
+                    } else if all {
+                        let most = (size - 56) / tree.record_len();
+                        let n = r.below(most as u64 + 2) as u16;
+                        b[6..8].copy_from_slice(&n.to_be_bytes());
+                    }
+                    seal(b);
+                }
+            }
+            let mut room = plenty;
+            room.blocks += 100;
+            room.scratch += 100;
+            room.bytes += 3000;
+            one_walk(&g, tree, &image, root, levels, room, tally);
+        }
+    }
+    // Nodes that share their children: far more visits than blocks.
+    for _ in 0..300 * scale {
+        let mut g = geometry(r, false);
+        (g.version, g.block_size, g.agno) = (5, 512, 0);
+        g.agblocks = r.pick(&[0, 63, 64, 65, 200]);
+        let tree = r.pick(&Tree::BOTH);
+        let levels = 2 + r.below(4) as u32;
+        let cap = paper::node_capacity(&g, tree) as usize;
+        let sb = g.superblock();
+        let mut image = vec![0; 512 * levels as usize];
+        for level in 0..levels as usize {
+            let b = &mut image[512 * level..][..512];
+            let n = if level == 0 {
+                1
+            } else {
+                1 + r.below(cap as u64) as usize
+            };
+            for i in 0..n {
+                if level > 0 {
+                    let p = 56 + cap * (tree.entry_len() - 4) + 4 * i;
+                    b[p..p + 4].copy_from_slice(&(level as u32 - 1).to_be_bytes());
+                }
+            }
+            let (at, l) = (level as u32, level as u16);
+            oracle::ag_btree::reach::stamp(b, &sb, tree.shape(), g.agno, at, l, n as u16);
+            seal(b);
+        }
+        let room = Room {
+            stack: 2 * levels as usize * cap,
+            scratch: 300,
+            blocks: r.pick(&[300, 300, 64, 65, 30]),
+            bytes: r.pick(&[8000, 8000, 500]),
+        };
+        one_walk(&g, tree, &image, levels - 1, levels, room, tally);
+    }
+}
+
+/// A walk over a small image, with what it is lent.
+pub struct SmallWalk {
+    pub g: Geometry,
+    pub tree: Tree,
+    pub image: Vec<u8>,
+    pub root: u32,
+    pub levels: u32,
+    pub stack: usize,
+    pub scratch: usize,
+    pub blocks: usize,
+    pub bytes: usize,
+}
+
+/// A tree of a few blocks of 512 bytes, mostly damaged in some way.
+pub fn small_walk(r: &mut Random) -> SmallWalk {
+    let mut g = Geometry::v5(512);
+    g.agblocks = r.pick(&[0, 70]);
+    g.agno = r.below(3) as u32;
+    g.meta_uuid = r.bytes(16).try_into().expect("16 bytes");
+    let tree = r.pick(&Tree::BOTH);
+    let n = r.below(80) as usize;
+    let list = list(r, tree, n);
+    let plan = planned(&g, tree, n);
+    let total = plan.iter().sum::<u64>() as usize;
+    let most = total + 1;
+    let at = numbers(r, total, most);
+    let out = bare::build(&g, tree, &list, &at)
+        .accepted()
+        .expect("a tree");
+    let mut image = vec![0x5A; most * 512];
+    for (b, &n) in out.chunks_exact(512).zip(&at) {
+        image[n as usize * 512..][..512].copy_from_slice(b);
+    }
+    let mut root = at[total - 1];
+    let mut levels = plan.len() as u32;
+    let mut w = SmallWalk {
+        g,
+        tree,
+        stack: 2 * levels as usize * paper::node_capacity(&g, tree) as usize,
+        scratch: total + 1,
+        blocks: total + 1,
+        bytes: list.len() + r.below(30) as usize,
+        image: vec![],
+        root,
+        levels,
+    };
+    let hurt = at[r.below(total as u64) as usize] as usize * 512;
+    match r.below(24) {
+        0 => {
+            w.g.version = 4;
+            w.stack += 100;
+        }
+        1 => w.g.version = 7,
+        2 => levels = r.pick(&[0, 10]),
+        3 => w.stack -= 1,
+        4 => w.scratch = total,
+        5 => root = most as u32,
+        6 => image.truncate(image.len() - 600),
+        7 => w.blocks = total - 1,
+        8 => w.bytes = (list.len() / 2).saturating_sub(1),
+        9 => {
+            levels += 1;
+            w.stack *= 2;
+        }
+        10..=18 => {
+            let i = r.pick(&[0, 4, 5, 6, 7, 16, 23, 33, 48, 51]);
+            image[hurt + i] ^= 1 << r.below(3);
+            seal(&mut image[hurt..hurt + 512]);
+        }
+        19 => image[hurt + r.below(512) as usize] ^= 4,
+        20 | 21 => {
+            // A node of three levels whose children are one block.
+            (levels, root) = (3, 2);
+            let cap = paper::node_capacity(&g, tree) as usize;
+            image = vec![0; 3 * 512];
+            let sb = g.superblock();
+            for (level, b) in image.chunks_exact_mut(512).enumerate() {
+                let n = if level == 0 { 1 } else { 9 };
+                for i in 0..if level == 0 { 0 } else { n } {
+                    let p = 56 + cap * (tree.entry_len() - 4) + 4 * i;
+                    b[p..p + 4].copy_from_slice(&(level as u32 - 1).to_be_bytes());
+                }
+                let (at, l) = (level as u32, level as u16);
+                oracle::ag_btree::reach::stamp(b, &sb, tree.shape(), g.agno, at, l, n as u16);
+                seal(b);
+            }
+            w.stack = 6 * cap;
+            (w.blocks, w.scratch, w.bytes) = (100, 100, 2400);
+        }
+        _ => (),
+    }
+    (w.image, w.root, w.levels) = (image, root, levels);
+    w
+}
