@@ -18,7 +18,7 @@ use Rattle.lists.proofs.Cases.{split, tests, conj, not-false, within-in, within
 use Rattle.lists.specs.Passes.{fewer}
 use Rattle.lists.proofs.Counts.{From, Accepted, owners-left, kind-owners}
 use Rattle.lists.proofs.Runs.{runs-same}
-use Rattle.groups.specs.Agree.{shared, Agree}
+use Rattle.groups.specs.History.{shared, Agree}
 
 -- ---- the shared count over a block, and the owners there
 

@@ -20,8 +20,7 @@ use Rattle.lists.specs.Release as release
 use Rattle.lists.specs.Edits.{insertOutcome}
 use Rattle.lists.proofs.Cases.{split, within-not, within-left, within-right, over-facts}
 use Rattle.groups.specs.LetGo.{letGoOutcome}
-use Rattle.groups.specs.Agree.{shared}
-use Rattle.groups.specs.History.{Lists, Accepted, Agreeing, held, Change, take, letGo, extent, step, after, covered, taken, run, takes, letsGo, Held, Start}
+use Rattle.groups.specs.History.{shared, Lists, Accepted, Agreeing, held, Change, take, letGo, extent, step, after, covered, taken, run, takes, letsGo, Held, Start}
 use Rattle.groups.proofs.History.{kept-step}
 
 -- ---- change by change

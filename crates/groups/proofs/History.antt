@@ -19,7 +19,7 @@ use Rattle.lists.proofs.Cases.{split, tests}
 use Rattle.lists.proofs.Counts as C
 use Rattle.lists.proofs.Laws.{Taken, insert-law, insertShared-law}
 use Rattle.groups.specs.LetGo.{Gone, letGoOutcome}
-use Rattle.groups.specs.History.{Lists, Accepted, Agreeing, held, Change, take, takeShared, letGo, extent, Left, took, went, step, after, covered, taken, gone, run, takes, letsGo, At, Start, Claim}
+use Rattle.groups.specs.History.{Lists, Accepted, Agreeing, held, Change, take, takeShared, letGo, extent, Left, took, went, step, after, covered, taken, gone, run, takes, letsGo, At, Start, EveryHistory}
 use Rattle.groups.proofs.Agreement.{agree-letGo, agree-take, unshared-unheld}
 use Rattle.groups.proofs.Letting.{letGo-law}
 use Rattle.groups.proofs.Returning.{returned}
@@ -213,7 +213,7 @@ refused-same σ before c n v e = run-append σ before (c ∷ []) ∙ ap (after (
 
 -- ---- the theorem
 
-pub history : (σ : Lists) (cs : List Change) → Start σ cs → Claim σ cs
+pub history : EveryHistory
 history σ cs s =
     let k = kept-run σ cs s in
     record {

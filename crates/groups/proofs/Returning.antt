@@ -20,7 +20,7 @@ use Rattle.trees.specs.BuildCall.{ordered, builtBytes, buildOutcome}
 use Rattle.trees.specs.Shapes.{shapeOf}
 use Rattle.trees.specs.RoundTrip.{levelsFor}
 use Rattle.trees.proofs.BuiltReturned.{stored-returned}
-use Rattle.groups.specs.Returned.{Stored, Returned}
+use Rattle.groups.specs.History.{Stored, Returned}
 
 -- version 5 has both trees
 has-tree : (kind : TreeKind) (version : ℕ) → version ≡ 5 → hasTree kind version ≡ true

@@ -1,10 +1,13 @@
 -- Histories: lists of takes and lets go, refused ones included, run from a reverse map and counts, and what is claimed of each of them.
+-- The statement is `EveryHistory`, at the end; what it speaks of stands before it. proofs/History.antt proves it.
 -- Assumes nothing.
-use Prim.Native.Nat.{ℕ, _+_, _<_}
-use mathlib.Core.Bool.{true}
-use mathlib.Core.Path.{_≡_}
+use Prim.Native.Nat.{ℕ, _+_, _*_, _<_, _≤_, max}
+use mathlib.Core.Bool.{Bool, true, false, not, _&&_, _||_}
+use mathlib.Core.Path.{_≡_, refl}
+use mathlib.Core.Logic.{_↔_}
 use mathlib.Core.List.{List, [], _∷_, _++_}
 use lib.Dec.{eqb}
+use lib.ListN.{length}
 use Rattle.codec.specs.Bytes.{IsBytes}
 use Rattle.codec.specs.Question.{Values, Outcome, done, refused, mapOutcome}
 use Rattle.codec.specs.Records.{recordsOf, bytesOf, RmapFits, rmaps, refcounts}
@@ -12,14 +15,45 @@ use Rattle.codec.specs.Accepted.{whole}
 use Rattle.codec.specs.Rmaps as rmap
 use Rattle.codec.specs.Refcounts as refcount
 use Rattle.codec.specs.declared.rmap.Rmap.{Rmap}
-use Rattle.blocks.specs.declared.kind.TreeKind.the-variants as kind
+use Rattle.codec.specs.declared.refcount.Refcount.{Refcount}
 use Rattle.codec.specs.declared.free_extent.FreeExtent.{FreeExtent}
-use Rattle.lists.specs.Extent.{within, runs}
+use Rattle.blocks.specs.declared.geometry.Geometry.{Geometry}
+use Rattle.blocks.specs.declared.kind.TreeKind.{TreeKind}
+use Rattle.blocks.specs.declared.kind.TreeKind.the-variants as kind
+use Rattle.blocks.specs.Geometry.{geometryOk, Fits}
+use Rattle.trees.specs.Plan.{sum}
+use Rattle.trees.specs.WalkCall.{Lent}
+use Rattle.trees.specs.Build.{planOf, AreNumbers, Places, stored}
+use Rattle.trees.specs.BuildCall.{builtBytes, buildOutcome}
+use Rattle.trees.specs.Shapes.{shapeOf}
+use Rattle.trees.specs.RoundTrip as trip
+use Rattle.lists.specs.Extent.{over, within, runs}
 use Rattle.lists.specs.Holders.{holders}
 use Rattle.lists.specs.Edits.{insertOutcome, insertSharedOutcome}
 use Rattle.groups.specs.LetGo.{Gone, letGoOutcome}
-use Rattle.groups.specs.Agree.{Agree}
-use Rattle.groups.specs.Returned.{Returned}
+
+-- ---- holders
+
+-- the number of records over block b is `holders` of crates/lists, by these two equations: none in an empty list; in another, 1 if the first
+-- record lies over b, and those of the rest
+pub holders-none : (b : ℕ) → holders [] b ≡ 0
+unfolding holders
+holders-none b = refl
+
+pub holders-more : (r : Rmap) (l : List Rmap) (b : ℕ) → holders (r ∷ l) b ≡ within (r .startblock) (r .blockcount) 1 b + holders l b
+unfolding holders
+holders-more r l b = refl
+
+-- ---- agree
+
+-- does a shared count n lie over block b? Staging is no shared count.
+unfoldable pub shared : ℕ → ℕ → List Refcount → Bool
+shared n b [] = false
+shared n b (r ∷ l) = not (refcount.staging r) && (over (r .startblock) (r .blockcount) b && eqb (r .refcount) n) || shared n b l
+
+-- a shared count n lies over a block exactly if n records, two or more, do
+abbrev pub Agree : List Rmap → List Refcount → Type 0
+Agree map counts = (b n : ℕ) → (shared n b counts ≡ true) ↔ ((2 ≤ n) × (holders map b ≡ n))
 
 -- ---- the two lists
 
@@ -37,7 +71,6 @@ pub record Accepted (σ : Lists) : Type 0 where
   pub counts-whole : whole 12 (σ .counts) ≡ true
   pub counts-order : refcount.accepted (recordsOf refcounts (σ .counts)) ≡ true
 
--- a shared count n lies over a block exactly if n records, two or more, do
 abbrev pub Agreeing : Lists → Type 0
 Agreeing σ = Agree (recordsOf rmaps (σ .map)) (recordsOf refcounts (σ .counts))
 
@@ -122,6 +155,33 @@ pub record At (cs before : List Change) (c : Change) : Type 0 where
 abbrev pub Held : Lists → List Change → ℕ → Type 0
 Held σ before b = letsGo σ before b < held σ b + takes σ before b
 
+-- ---- built, stored and walked
+
+-- what is built and where it is stored: a version 5 geometry, distinct given numbers inside the image, as many as planned and within the
+-- visit limit, room for the blocks, and long enough lists and scratch
+pub record Stored (kind : TreeKind) (list : List ℕ) (g : Geometry) (numbers image : List ℕ) (room : ℕ) (lent : Lent) : Type 0 where
+  pub geometry : geometryOk g ≡ true
+  pub fields : Fits g
+  pub version : g .version ≡ 5
+  pub levels : trip.levelsFor g kind list ≤ 9
+  pub numbers-fit : AreNumbers numbers
+  pub planned : length numbers ≡ sum (planOf (shapeOf g kind) list)
+  pub places : Places (g .blocksize) (length image) numbers
+  pub limit : length numbers ≤ max (g .agblocks) 64
+  pub room-left : length numbers * g .blocksize ≤ room
+  pub long : trip.LongEnough g kind list numbers lent
+
+-- build accepts it, and the walk of the image, whatever else that holds, from the last block over the planned levels, returns the records byte
+-- for byte and the block numbers, both in order, in the planned number of visits
+pub record Back (kind : TreeKind) (list : List ℕ) (g : Geometry) (numbers image : List ℕ) (room : ℕ) (lent : Lent) : Type 0 where
+  pub built : buildOutcome g kind list numbers room ≡ done (builtBytes g kind list numbers)
+  pub walked : trip.Returned g kind list numbers (stored (g .blocksize) image numbers (builtBytes g kind list numbers)) lent
+
+-- each list so built and stored comes back so
+abbrev pub Returned : TreeKind → List ℕ → Type 0
+Returned kind list =
+    (g : Geometry) (numbers image : List ℕ) (room : ℕ) (lent : Lent) → Stored kind list g numbers image room lent → Back kind list g numbers image room lent
+
 -- ---- the claim
 
 -- what a history starts from
@@ -134,7 +194,7 @@ pub record Start (σ : Lists) (cs : List Change) : Type 0 where
   -- no accepted take covering a block then held
   pub fresh : (before : List Change) (c : Change) → At cs before c → (b : ℕ) → 0 < taken c (step (run σ before) c) b → Held σ before b → ⊥
 
--- demand 3 of a history
+-- what comes of it
 pub record Claim (σ : Lists) (cs : List Change) : Type 0 where
   -- after the whole list, the number of records over each block is the starting one + accepted takes − accepted lets go that covered it
   pub sum : (b : ℕ) → held (run σ cs) b + letsGo σ cs b ≡ held σ b + takes σ cs b
@@ -151,3 +211,7 @@ pub record Claim (σ : Lists) (cs : List Change) : Type 0 where
   -- each of the two, built and stored, is returned by the walk
   pub map-returned : Returned kind.Rmap (run σ cs .map)
   pub counts-returned : Returned kind.Refcount (run σ cs .counts)
+
+-- every history from such a start comes out so
+abbrev pub EveryHistory : Type 0
+EveryHistory = (σ : Lists) (cs : List Change) → Start σ cs → Claim σ cs
