@@ -3,7 +3,7 @@
 use Prim.Native.Nat.{ℕ, _+_, _/_, _%_, _^_, _≤_, _<_}
 use native.Mathlib.Nat.{div-div-eq-div-mul}
 use mathlib.Core.Path.{_≡_, refl, ap, sym, _∙_}
-use mathlib.Core.Bool.{true, false, not}
+use mathlib.Core.Bool.{Bool, true, false, not, _||_}
 use lib.Dec.{leb, ltb, eqb}
 use borrow.Author.Tests.{lt-ltb, le-leb, lt-leb, eq-eqb, ne-eqb}
 use Rattle.codec.specs.declared.rmap.Rmap.{Rmap}
@@ -30,6 +30,14 @@ module _ (r s : Rmap) where
   unfolding follows
   follows-true h = ap not h
 
+or-true : (t : Bool) → (t || true) ≡ true
+or-true true = refl
+or-true false = refl
+
+or-false : (t : Bool) → (t || false) ≡ t
+or-false true = refl
+or-false false = refl
+
 module _ (r : Rmap) where
   pub exempt-reserved : 2 ^ 63 ≤ r .owner → true ≡ exempt r
   unfolding exempt reserved
@@ -49,10 +57,10 @@ module _ (r : Rmap) where
     good-long h = simp (lt-ltb _ _ a, lt-leb _ _ h)
 
     module _ (b : end r ≤ 2 ^ 31) where
-      pub good-exempt : exempt r ≡ true → true ≡ good r
+      pub good-near : fileOffset r + r .blockcount ≤ 2 ^ 54 → true ≡ good r
       unfolding good
-      good-exempt h = simp (lt-ltb _ _ a, le-leb _ _ b, h)
+      good-near h = simp (lt-ltb _ _ a, le-leb _ _ b, le-leb _ _ h) (sym (or-true (exempt r)))
 
-      pub good-plain : exempt r ≡ false → leb (fileOffset r + r .blockcount) (2 ^ 54) ≡ good r
+      pub good-far : 2 ^ 54 < fileOffset r + r .blockcount → (t : Bool) → t ≡ exempt r → t ≡ good r
       unfolding good
-      good-plain h = simp (lt-ltb _ _ a, le-leb _ _ b, h)
+      good-far h t e = simp (lt-ltb _ _ a, le-leb _ _ b, lt-leb _ _ h) (e ∙ sym (or-false (exempt r)))

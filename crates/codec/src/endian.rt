@@ -25,14 +25,16 @@ pub fn be32(b: &[u8], off: usize) -> u32
     hi * 0x1_0000 + lo
 }
 
-// Read a big-endian `u64` at `off`.
+// Read a big-endian `u64` at `off`: four terms, which compile to one load.
 pub fn be64(b: &[u8], off: usize) -> u64
     requires { ⌜ off + 8 ≤ length (now b) ⌝ }
     ensures { λ r. ⌜ r ≡ beOf (bytesAt (now (b .entry)) off 8) ⌝ }
 {
-    let hi = be32(b, off) as u64;
-    let lo = be32(b, off + 4) as u64;
-    hi * 0x1_0000_0000 + lo
+    let highest = be16(b, off) as u64;
+    let high = be16(b, off + 2) as u64;
+    let low = be16(b, off + 4) as u64;
+    let lowest = be16(b, off + 6) as u64;
+    highest * 0x1_0000_0000_0000 + high * 0x1_0000_0000 + low * 0x1_0000 + lowest
 }
 
 fn le16(b: &[u8], off: usize) -> u16

@@ -81,10 +81,10 @@ pub fn good(r: Rmap) -> bool
     if 0x8000_0000 < r.startblock as u64 + r.blockcount as u64 {
         return false;
     }
-    if exempt(r) {
+    if r.offset % OFF_LIMIT + r.blockcount as u64 <= OFF_LIMIT {
         return true;
     }
-    r.offset % OFF_LIMIT + r.blockcount as u64 <= OFF_LIMIT
+    exempt(r)
 }
 
 // The offset without bit 61.

@@ -1,8 +1,7 @@
 -- `codec::rmap::good` meets its contract.
 -- Assumes nothing.
 use native.Mathlib.Omega.{arith}
-use mathlib.Core.Path.{sym, _∙_}
-use Rattle.codec.proofs.RmapTests.{good-zero, good-long, good-exempt, good-plain}
+use Rattle.codec.proofs.RmapTests.{good-zero, good-long, good-near, good-far}
 use borrow.Author.Needs.{needs}
 use Rattle.codec.proofs.rmap.good.Statement.{statement}
 use Rattle.codec.proofs.rmap.good.Tie as tie
@@ -22,20 +21,20 @@ add-if2 c = search needs
 returns-2 : tie.Need-returns-2
 returns-2 c = good-long _ (omega arith) (c .if2 .taken)
 
+cast-if3 : tie.Need-cast-if3
+cast-if3 c = search needs
+
+add-if3 : tie.Need-add-if3
+add-if3 c = search needs
+
+returns-3 : tie.Need-returns-3
+returns-3 c = good-near _ (omega arith) (c .before .before .before .if2 .left) (c .if3 .taken)
+
 exempt-requires : tie.Need-exempt-requires
 exempt-requires c κs = search needs
 
-returns-3 : tie.Need-returns-3
-returns-3 c = good-exempt _ (omega arith) (c .before .before .if2 .left) (sym (c .before .exempt .ensures) ∙ c .if3 .taken)
-
-cast-result : tie.Need-cast-result
-cast-result c = search needs
-
-add-result : tie.Need-add-result
-add-result c = search needs
-
 returns-4 : tie.Need-returns-4
-returns-4 c = good-plain _ (omega arith) (c .before .before .before .before .if2 .left) (sym (c .before .before .before .exempt .ensures) ∙ c .before .before .if3 .left)
+returns-4 c = good-far _ (omega arith) (c .before .before .before .before .if2 .left) (c .before .if3 .left) _ (c .exempt .ensures)
 
 pub good-spec : {M : Type 1} → statement M
 good-spec =
@@ -46,8 +45,8 @@ good-spec =
     cast-if2-2
     add-if2
     returns-2
-    exempt-requires
+    cast-if3
+    add-if3
     returns-3
-    cast-result
-    add-result
+    exempt-requires
     returns-4)
