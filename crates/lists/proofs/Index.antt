@@ -13,7 +13,7 @@ use borrow.Author.Tests.{lt-ltb, le-ltb}
 use Rattle.codec.specs.Rmaps.{least}
 use Rattle.codec.specs.declared.rmap.Rmap.{Rmap}
 use Rattle.lists.specs.RmapEdits.{first, isSome, any, replace, nothing}
-use Rattle.lists.specs.RmapPlans.{indexWhere}
+use Rattle.lists.specs.RmapPlans.{indexWhere, noteOf}
 use Rattle.lists.proofs.Cases.{split, tests}
 
 module _ (p : Rmap → Bool) where
@@ -124,6 +124,10 @@ pub seen-none : (at n : ℕ) → n ≡ seen at 0 n
 unfolding seen
 seen-none at n = rw (le-ltb at 0 (omega arith)) refl
 
+pub seen-le : (at i n found : ℕ) → i ≤ n → found ≡ seen at i n → found ≤ n
+unfolding seen
+seen-le at i n found h e = split (ltb at i) (λ f. let q : found ≡ at = rw f at e in omega tests) (λ f. let q : found ≡ n = rw f at e in omega arith)
+
 pub seen-all : (p : Rmap → Bool) (l : List Rmap) (i n : ℕ) → n ≡ length l → n ≤ i → seen (indexWhere p l) i n ≡ indexWhere p l
 unfolding seen
 seen-all p l i n e h =
@@ -133,8 +137,8 @@ seen-all p l i n e h =
 
 -- one record more
 pub seen-next : (p : Rmap → Bool) (l : List Rmap) (i n was now : ℕ) (r : Rmap) → n ≡ length l → i < n → r ≡ getD l i least → was ≡ seen (indexWhere p l) i n
-    → now ≡ cond (ltb was n) was (cond (p r) i n) → now ≡ seen (indexWhere p l) (i + 1) n
-unfolding seen
+    → now ≡ noteOf was n i (p r) → now ≡ seen (indexWhere p l) (i + 1) n
+unfolding seen noteOf
 seen-next p l i n was now r en h er ew e =
     split (ltb (indexWhere p l) i)
     (λ f. let w : was ≡ indexWhere p l = rw f at ew in

@@ -3,28 +3,38 @@
 use Prim.Native.Nat.{ℕ, _+_, _*_, _/_, _≤_, _<_}
 use native.Mathlib.Omega.{arith}
 use mathlib.Core.Path.{_≡_, refl, sym, ap, _∙_}
-use mathlib.Core.Bool.{Bool, true, false, cond, _&&_}
+use mathlib.Core.Bool.{Bool, true, false, not, _&&_}
 use mathlib.Core.List.{List}
-use lib.Dec.{ltb}
-use lib.ListN.{length, getD}
+use lib.Dec.{ltb, leb, eqb}
+use lib.ListN.{length, getD, drop}
+use borrow.Author.Tests.{le-leb, lt-leb, lt-ltb, le-ltb}
 use Rattle.codec.specs.Bytes.{bytesAt}
 use Rattle.codec.specs.Records.{Kind, recordsOf, rmaps}
-use Rattle.codec.specs.Rmaps.{before, follows, least, accepted}
+use Rattle.codec.specs.Accepted.{inOrder}
+use Rattle.codec.specs.Rmaps.{end, keyOffset, before, good, follows, least, accepted}
 use Rattle.codec.specs.declared.rmap.Rmap.{Rmap}
+use Rattle.codec.proofs.ListOrder.{order-bad, order-low, order-pass}
 use Rattle.codec.proofs.RecordLists.{length-recordsOf, getD-recordsOf}
 use Rattle.lists.specs.declared.rmap_plans.Edit.{Edit}
 use Rattle.lists.specs.declared.rmap_plans.Edit.the-variants.{Insert, InsertShared, Remove}
 use Rattle.lists.specs.declared.rmap_plans.Hits.{Hits}
+use Rattle.lists.specs.declared.rmap_plans.Scan.{Scan}
 use Rattle.lists.specs.RmapEdits.{continues, clash, contains, linesUp}
-use Rattle.lists.specs.RmapPlans.{indexWhere, seat, tests, Finds, ScanIs}
-use Rattle.lists.proofs.Index.{index-le, seen, seen-next, seen-all}
+use Rattle.lists.specs.RmapPlans.{indexWhere, seat, touches, tests, noteOf, Noted, Finds, ScanIs}
+use Rattle.lists.proofs.Cases.{split, tests as facts, conj, and-l, and-r, and-true}
+use Rattle.lists.proofs.Found.{contains-ends, continues-end}
+use Rattle.lists.proofs.Index.{index-le, index-same, seen, seen-none, seen-le, seen-next, seen-all}
 use Rattle.lists.proofs.RmapOrder.{accepted-facts}
 use Rattle.lists.proofs.Seats.{seat-past, seat-at}
 
 -- ---- what a record passes
 
+-- no search finds it
+abbrev none-hit : Hits
+none-hit = record { first = false; second = false; third = false }
+
 module _ (e : Edit) (x r : Rmap) where
-  pub hits-insert : e ≡ Insert → record { first = ltb (x .startblock) (r .startblock); second = false; third = false } ≡ tests e x r
+  pub hits-insert : e ≡ Insert → none-hit ≡ tests e x r
   unfolding tests
   hits-insert h = rw h refl
 
@@ -32,13 +42,72 @@ module _ (e : Edit) (x r : Rmap) where
   unfolding tests
   hits-shared a b c h p q s = rw (h, p, q, s) refl
 
-  pub hits-outside : e ≡ Remove → contains x r ≡ false → record { first = false; second = false; third = false } ≡ tests e x r
+  pub hits-outside : e ≡ Remove → contains x r ≡ false → none-hit ≡ tests e x r
   unfolding tests
   hits-outside h c = rw (h, c) refl
 
   pub hits-remove : (a : Bool) → e ≡ Remove → contains x r ≡ true → a ≡ linesUp x r → record { first = a; second = true; third = false } ≡ tests e x r
   unfolding tests
   hits-remove a h c p = rw (h, c, p) refl
+
+-- ---- a record that does not touch x
+
+module _ (x r : Rmap) where
+  pub touches-below : end r < x .startblock → false ≡ touches x r
+  unfolding touches
+  touches-below h = simp (lt-leb _ _ h)
+
+  pub touches-from : x .startblock ≤ end r → leb (r .startblock) (end x) ≡ touches x r
+  unfolding touches
+  touches-from h = simp (le-leb _ _ h)
+
+  module _ (apart : touches x r ≡ false) where
+    apart-ends : x .startblock ≤ end r → r .startblock ≤ end x → ⊥
+    unfolding touches
+    apart-ends a b =
+        let t : (leb (x .startblock) (end r) && leb (r .startblock) (end x)) ≡ true = and-true _ _ (le-leb _ _ a) (le-leb _ _ b) in
+        let z : _≡_ {A = ℕ} 0 1 = cc in omega arith
+
+    never : (t : Bool) → (t ≡ true → (x .startblock ≤ end r) × (r .startblock ≤ end x)) → t ≡ false
+    never t f = split t (λ e. let k = f e in absurd (apart-ends (k .0) (k .1))) (λ e. e)
+
+    clash-ends : clash x r ≡ true → (x .startblock ≤ end r) × (r .startblock ≤ end x)
+    unfolding clash
+    clash-ends e =
+        let h : ltb (r .startblock) (end x) ≡ true = search conj in
+        let k : ltb (x .startblock) (end r) ≡ true = search conj in
+        (omega facts, omega facts)
+
+    pub tests-apart : (e : Edit) → tests e x r ≡ none-hit
+    unfolding tests
+    tests-apart Insert = refl
+    tests-apart InsertShared =
+        rw (
+          never (clash x r) clash-ends,
+          never (continues r x) (λ e. let h = continues-end r x e in (omega arith, omega arith)),
+          never (continues x r) (λ e. let h = continues-end x r e in (omega arith, omega arith)),
+        ) refl
+    tests-apart Remove = rw (never (contains x r) (λ e. let h = contains-ends x r e in (omega arith, omega arith))) refl
+
+-- nothing is noted
+note-none : (found n i : ℕ) → found ≤ n → found ≡ noteOf found n i false
+unfolding noteOf
+note-none found n i h = split (ltb found n) (λ e. rw e refl) (λ e. rw e (omega facts))
+
+pub noted-apart : (e : Edit) (x r : Rmap) (s : Scan) (i n : ℕ) → touches x r ≡ false → (s .first ≤ n) × (s .second ≤ n) × (s .third ≤ n) → Noted (tests e x r) i n s s
+noted-apart e x r s i n t h =
+    rw (tests-apart x r t e)
+    (record {
+      ordered = refl;
+      first = note-none (s .first) n i (h .0);
+      second = note-none (s .second) n i (h .1);
+      third = note-none (s .third) n i (h .2);
+    })
+
+pub noted-touching : (e : Edit) (x r : Rmap) (s : Scan) (i n : ℕ) (h : Hits) (a b c : ℕ) → h ≡ tests e x r → a ≡ noteOf (s .first) n i (h .first) → b ≡ noteOf (s .second) n i (h .second) → c ≡ noteOf (s .third) n i (h .third)
+    → Noted (tests e x r) i n s (record { ordered = s .ordered; first = a; second = b; third = c })
+noted-touching e x r s i n h a b c q u v w =
+    rw (← q) (record { ordered = refl; first = u; second = v; third = w })
 
 -- ---- the record read
 
@@ -50,30 +119,55 @@ read-at b i r h e = e ∙ sym (getD-recordsOf rmaps b i least h)
 pub scan-bad : (e : Edit) (x : Rmap) (l : List Rmap) (a b c : ℕ) → accepted l ≡ false → ScanIs e x l (record { ordered = false; first = a; second = b; third = c })
 scan-bad e x l a b c h = record { ordered = sym h; finds = λ t. absurd (let z : _≡_ {A = ℕ} 0 1 = cc in omega arith) }
 
--- one record more; f is one of the searches
-pub scan-next : (f : Hits → Bool) (e : Edit) (x : Rmap) (b : List ℕ) (i was now : ℕ) (r : Rmap) (h : Hits) → i < length b / 24 → r ≡ rmaps .decode (bytesAt b (i * 24) 24) → h ≡ tests e x r
-    → was ≡ seen (indexWhere (λ r. f (tests e x r)) (recordsOf rmaps b)) i (length b / 24) → now ≡ cond (ltb was (length b / 24)) was (cond (f h) i (length b / 24))
-    → now ≡ seen (indexWhere (λ r. f (tests e x r)) (recordsOf rmaps b)) (i + 1) (length b / 24)
-scan-next f e x b i was now r h k d t w n =
-    seen-next (λ r. f (tests e x r)) (recordsOf rmaps b) i (length b / 24) was now r (sym (length-recordsOf rmaps b)) k (read-at b i r k d) w
-    (n ∙ ap (λ (h : Hits). cond (ltb was (length b / 24)) was (cond (f h) i (length b / 24))) t)
+-- each search has found what there is among the first i records
+pub record Seen (e : Edit) (x : Rmap) (b : List ℕ) (i : ℕ) (s : Scan) : Type 0 where
+  pub ordered : s .ordered ≡ true
+  pub first : s .first ≡ seen (indexWhere (λ r. tests e x r .first) (recordsOf rmaps b)) i (length b / 24)
+  pub second : s .second ≡ seen (indexWhere (λ r. tests e x r .second) (recordsOf rmaps b)) i (length b / 24)
+  pub third : s .third ≡ seen (indexWhere (λ r. tests e x r .third) (recordsOf rmaps b)) i (length b / 24)
 
-pub scan-end : (e : Edit) (x : Rmap) (b : List ℕ) (i p q s : ℕ) → length b / 24 ≤ i → accepted (recordsOf rmaps b) ≡ true
-    → p ≡ seen (indexWhere (λ r. tests e x r .first) (recordsOf rmaps b)) i (length b / 24)
-    → q ≡ seen (indexWhere (λ r. tests e x r .second) (recordsOf rmaps b)) i (length b / 24)
-    → s ≡ seen (indexWhere (λ r. tests e x r .third) (recordsOf rmaps b)) i (length b / 24)
-    → ScanIs e x (recordsOf rmaps b) (record { ordered = true; first = p; second = q; third = s })
-scan-end e x b i p q s h a u v w =
-    let n = sym (length-recordsOf rmaps b) in
-    record {
-      ordered = sym a;
-      finds = λ t.
-          record {
-            first = u ∙ seen-all (λ r. tests e x r .first) (recordsOf rmaps b) i (length b / 24) n h;
-            second = v ∙ seen-all (λ r. tests e x r .second) (recordsOf rmaps b) i (length b / 24) n h;
-            third = w ∙ seen-all (λ r. tests e x r .third) (recordsOf rmaps b) i (length b / 24) n h;
-          };
-    }
+pub scan-start : (e : Edit) (x : Rmap) (b : List ℕ) → Seen e x b 0 (record { ordered = true; first = length b / 24; second = length b / 24; third = length b / 24 })
+scan-start e x b = record { ordered = refl; first = seen-none _ _; second = seen-none _ _; third = seen-none _ _ }
+
+module _ (e : Edit) (x : Rmap) (b : List ℕ) (i : ℕ) (s : Scan) (found : Seen e x b i s) where
+  pub scan-room : i ≤ length b / 24 → (s .first ≤ length b / 24) × (s .second ≤ length b / 24) × (s .third ≤ length b / 24)
+  scan-room h = (seen-le _ i _ _ h (found .first), seen-le _ i _ _ h (found .second), seen-le _ i _ _ h (found .third))
+
+  -- one record more
+  pub scan-next : (r : Rmap) (k : Scan) → i < length b / 24 → r ≡ rmaps .decode (bytesAt b (i * 24) 24) → Noted (tests e x r) i (length b / 24) s k → Seen e x b (i + 1) k
+  scan-next r k h d t =
+      let n = sym (length-recordsOf rmaps b) in
+      let q = read-at b i r h d in
+      record {
+        ordered = t .ordered ∙ found .ordered;
+        first = seen-next (λ r. tests e x r .first) (recordsOf rmaps b) i (length b / 24) _ _ r n h q (found .first) (t .first);
+        second = seen-next (λ r. tests e x r .second) (recordsOf rmaps b) i (length b / 24) _ _ r n h q (found .second) (t .second);
+        third = seen-next (λ r. tests e x r .third) (recordsOf rmaps b) i (length b / 24) _ _ r n h q (found .third) (t .third);
+      }
+
+  pub scan-end : length b / 24 ≤ i → accepted (recordsOf rmaps b) ≡ true → ScanIs e x (recordsOf rmaps b) s
+  scan-end h a =
+      let n = sym (length-recordsOf rmaps b) in
+      record {
+        ordered = found .ordered ∙ sym a;
+        finds = λ t.
+            record {
+              first = found .first ∙ seen-all (λ r. tests e x r .first) (recordsOf rmaps b) i (length b / 24) n h;
+              second = found .second ∙ seen-all (λ r. tests e x r .second) (recordsOf rmaps b) i (length b / 24) n h;
+              third = found .third ∙ seen-all (λ r. tests e x r .third) (recordsOf rmaps b) i (length b / 24) n h;
+            };
+      }
+
+-- the order at one record more
+module _ (b : List ℕ) (i : ℕ) (q r : Rmap) (inside : i < length b / 24) (read : r ≡ rmaps .decode (bytesAt b (i * 24) 24)) where
+  pub order-stops : (good r && follows q r) ≡ false → inOrder good follows q (drop i (recordsOf rmaps b)) ≡ false
+  order-stops h =
+      split (good r)
+      (λ g. order-low rmaps good follows b i q r inside read g (rw g at h))
+      (λ g. order-bad rmaps good follows b i q r inside read g)
+
+  pub order-goes-on : (good r && follows q r) ≡ true → inOrder good follows q (drop i (recordsOf rmaps b)) ≡ inOrder good follows r (drop (i + 1) (recordsOf rmaps b))
+  order-goes-on h = order-pass rmaps good follows b i q r inside read (and-l (good r) (follows q r) h) (and-r (good r) (follows q r) h)
 
 -- ---- a search by halves
 
@@ -89,3 +183,25 @@ pub seat-high : (b : List ℕ) (z r : Rmap) (i : ℕ) → i < length b / 24 → 
 seat-high b z r i h d e =
     let f = read-at b i r h d in
     seat-at z (recordsOf rmaps b) i (rw (length-recordsOf rmaps b) h) (rw f at e)
+
+none-below : (n : ℕ) → ltb n 0 ≡ false
+none-below n = le-ltb n 0 (omega arith)
+
+-- what starts one block after x, with the lowest owner and offset
+abbrev pub beyond : Rmap → Rmap
+beyond x = record { startblock = x .startblock + 1; blockcount = 0; owner = 0; offset = 0 }
+
+follows-beyond : (x r : Rmap) → follows (beyond x) r ≡ ltb (x .startblock) (r .startblock)
+unfolding follows before keyOffset
+follows-beyond x r =
+    split (eqb (r .startblock) (x .startblock + 1))
+    (λ e. rw (e, lt-ltb (x .startblock) (r .startblock) (omega facts))
+    (split (eqb (r .owner) 0) (λ f. rw f (ap not (none-below (keyOffset (r .offset))))) (λ f. rw f (ap not (none-below (r .owner))))))
+    (λ e. rw e
+    (split (ltb (r .startblock) (x .startblock + 1))
+    (λ f. rw (f, le-ltb (x .startblock) (r .startblock) (omega facts)) refl)
+    (λ f. rw (f, lt-ltb (x .startblock) (r .startblock) (omega facts)) refl)))
+
+-- its place is the first record that starts after x
+pub seat-beyond : (x : Rmap) (l : List Rmap) → seat (beyond x) l ≡ indexWhere (λ r. ltb (x .startblock) (r .startblock)) l
+seat-beyond x l = index-same (follows (beyond x)) (λ r. ltb (x .startblock) (r .startblock)) l (follows-beyond x)

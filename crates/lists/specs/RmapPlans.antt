@@ -4,12 +4,12 @@ use Prim.Native.Nat.{ℕ, zero, suc, _+_, _-_, _%_, _≤_}
 use mathlib.Core.Path.{_≡_}
 use mathlib.Core.Bool.{Bool, true, false, cond, _&&_}
 use mathlib.Core.List.{List, [], _∷_, _++_}
-use lib.Dec.{ltb, eqb}
+use lib.Dec.{ltb, leb, eqb}
 use lib.ListN.{length, getD, take, drop}
 use Rattle.codec.specs.Bytes.{withBytes}
 use Rattle.codec.specs.Question.{none, Outcome, done, refused, Question, ask, answer}
 use Rattle.codec.specs.Records.{recordsOf, bytesOf, rmaps}
-use Rattle.codec.specs.Rmaps.{flags, good, follows, least, accepted}
+use Rattle.codec.specs.Rmaps.{end, flags, good, follows, least, accepted}
 use Rattle.codec.specs.declared.rmap.Rmap.{Rmap}
 use Rattle.lists.specs.declared.rmap_plans.Edit.{Edit}
 use Rattle.lists.specs.declared.rmap_plans.Edit.the-variants.{Insert, InsertShared, Remove}
@@ -65,12 +65,27 @@ indexWhere p (r ∷ l) = cond (p r) 0 (suc (indexWhere p l))
 abbrev pub seat : Rmap → List Rmap → ℕ
 seat z l = indexWhere (follows z) l
 
--- what an edit searches for: insert, a record that starts after x; insert_shared, one that clashes, one that x continues and one that continues x;
--- remove, one that contains x and lines up, and one that contains it
+-- what an edit searches for: insert, nothing, since its place is found by halves; insert_shared, a record that clashes, one that x continues and
+-- one that continues x; remove, one that contains x and lines up, and one that contains it
 unfoldable pub tests : Edit → Rmap → Rmap → Hits
-tests Insert x r = record { first = ltb (x .startblock) (r .startblock); second = false; third = false }
+tests Insert x r = record { first = false; second = false; third = false }
 tests InsertShared x r = record { first = clash x r; second = continues r x; third = continues x r }
 tests Remove x r = record { first = contains x r && linesUp x r; second = contains x r; third = false }
+
+-- have x and r a block in common, or do they lie side by side? No other record passes a search.
+unfoldable pub touches : Rmap → Rmap → Bool
+touches x r = leb (x .startblock) (end r) && leb (r .startblock) (end x)
+
+-- what was found already, or the record i where it passes; n where nothing was found
+unfoldable pub noteOf : ℕ → ℕ → ℕ → Bool → ℕ
+noteOf found n i hit = cond (ltb found n) found (cond hit i n)
+
+-- k is what was found in s, and in the record i, which passes h
+pub record Noted (h : Hits) (i n : ℕ) (s k : Scan) : Type 0 where
+  pub ordered : k .ordered ≡ s .ordered
+  pub first : k .first ≡ noteOf (s .first) n i (h .first)
+  pub second : k .second ≡ noteOf (s .second) n i (h .second)
+  pub third : k .third ≡ noteOf (s .third) n i (h .third)
 
 -- what was found is the first that passes each
 pub record Finds (e : Edit) (x : Rmap) (l : List Rmap) (s : Scan) : Type 0 where

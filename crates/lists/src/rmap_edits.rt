@@ -8,6 +8,7 @@ use crate::rmap_plans::Part;
 use crate::rmap_plans::Plan;
 use crate::rmap_plans::Planned;
 use crate::rmap_plans::Scan;
+use crate::search::after;
 use crate::search::asked;
 use crate::search::continues;
 use crate::search::seat;
@@ -141,11 +142,11 @@ fn ready(old: &[u8], front: usize, first: Part, second: Part, rest: usize) -> Pl
 }
 
 // Question 23 of `insert`, and its plan.
-fn place_insert(old: &[u8], x: Rmap, s: Scan) -> Planned
-    requires { ⌜ TakeGood (now old) x × Finds Insert x (recordsOf rmaps (now old)) s ⌝ }
+fn place_insert(old: &[u8], x: Rmap) -> Planned
+    requires { ⌜ TakeGood (now old) x ⌝ }
     ensures { λ p. ⌜ PlanIs Insert (now (old .entry)) x p ⌝ }
 {
-    let at = s.first;
+    let at = after(old, x);
     if !clear(old, at, x) {
         return Planned::Refused(EditRefusal::Overlap);
     }
@@ -276,7 +277,7 @@ pub fn plan(old: &[u8], e: Edit, x: Rmap) -> Planned
     match found {
         Asked::Refused(q) => Planned::Refused(q),
         Asked::Found(s) => match e {
-            Edit::Insert => place_insert(old, x, s),
+            Edit::Insert => place_insert(old, x),
             Edit::InsertShared => place_shared(old, x, s),
             Edit::Remove => place_remove(old, x, s),
         },

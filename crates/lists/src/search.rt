@@ -11,12 +11,13 @@ use codec::rmap::decode;
 use codec::rmap::exempt;
 use codec::rmap::good;
 ghost use mathlib.Core.Path.{_≡_};
-ghost use mathlib.Core.Bool.{true, cond, _&&_};
+ghost use mathlib.Core.Bool.{true, _&&_};
+ghost use Prim.Native.Nat.{_≤_};
 ghost use lib.Dec.{ltb, eqb};
 ghost use Rattle.codec.specs.Records.{recordsOf, rmaps};
-ghost use Rattle.codec.specs.Rmaps.{flags, accepted};
+ghost use Rattle.codec.specs.Rmaps.{flags, good, follows, accepted};
 ghost use Rattle.lists.specs.RmapEdits.{continues, clash, contains, linesUp};
-ghost use Rattle.lists.specs.RmapPlans.{alike, tests, seat, ScanIs, AskedIs};
+ghost use Rattle.lists.specs.RmapPlans.{alike, indexWhere, touches, tests, seat, noteOf, Noted, ScanIs, AskedIs};
 
 // The bytes of a record.
 const RECORD: usize = 24;
@@ -100,7 +101,7 @@ fn hits(e: Edit, x: Rmap, r: Rmap) -> Hits
 {
     match e {
         Edit::Insert => Hits {
-            first: x.startblock < r.startblock,
+            first: false,
             second: false,
             third: false,
         },
@@ -128,7 +129,7 @@ fn hits(e: Edit, x: Rmap, r: Rmap) -> Hits
 
 // What was found already, or the record i where it passes; n where nothing was found.
 fn note(found: usize, n: usize, i: usize, hit: bool) -> usize
-    ensures { λ r. ⌜ r ≡ cond (ltb found n) found (cond hit i n) ⌝ }
+    ensures { λ r. ⌜ r ≡ noteOf found n i hit ⌝ }
 {
     if found < n {
         return found;
@@ -139,7 +140,45 @@ fn note(found: usize, n: usize, i: usize, hit: bool) -> usize
     n
 }
 
-// Question 20, and what an edit searches for, in one pass.
+// Do x and r have a block in common, or lie side by side?
+fn touches(x: Rmap, r: Rmap) -> bool
+    ensures { λ t. ⌜ t ≡ touches x r ⌝ }
+{
+    if r.startblock as u64 + (r.blockcount as u64) < x.startblock as u64 {
+        return false;
+    }
+    r.startblock as u64 <= x.startblock as u64 + x.blockcount as u64
+}
+
+// What was found, with the record i. One that does not touch x passes nothing.
+fn noted(s: Scan, e: Edit, x: Rmap, r: Rmap, i: usize, n: usize) -> Scan
+    requires { ⌜ (s .first ≤ n) × (s .second ≤ n) × (s .third ≤ n) ⌝ }
+    ensures { λ k. ⌜ Noted (tests e x r) i n s k ⌝ }
+{
+    if !touches(x, r) {
+        return s;
+    }
+    let h = hits(e, x, r);
+    Scan {
+        ordered: s.ordered,
+        first: note(s.first, n, i, h.first),
+        second: note(s.second, n, i, h.second),
+        third: note(s.third, n, i, h.third),
+    }
+}
+
+// Is r good, and may it stand behind prev?
+fn passes(prev: Rmap, r: Rmap) -> bool
+    ensures { λ t. ⌜ t ≡ (good r && follows prev r) ⌝ }
+{
+    if !good(r) {
+        return false;
+    }
+    !comes_before(r, prev)
+}
+
+// Question 20, and what an edit searches for, in one pass. A record is read before the one in front of it is tested: then it compiles to whole
+// loads.
 fn scan(list: &[u8], e: Edit, x: Rmap) -> Scan
     ensures { λ s. ⌜ ScanIs e x (recordsOf rmaps (now (list .entry))) s ⌝ }
 {
@@ -150,13 +189,19 @@ fn scan(list: &[u8], e: Edit, x: Rmap) -> Scan
         owner: 0,
         offset: 0,
     };
-    let mut first = n;
-    let mut second = n;
-    let mut third = n;
+    let mut r = prev;
+    if 0 < n {
+        r = decode(list, 0);
+    }
+    let mut s = Scan {
+        ordered: true,
+        first: n,
+        second: n,
+        third: n,
+    };
     let mut i = 0;
     while i < n {
-        let r = decode(list, i * RECORD);
-        if !good(r) {
+        if !passes(prev, r) {
             return Scan {
                 ordered: false,
                 first: n,
@@ -164,27 +209,14 @@ fn scan(list: &[u8], e: Edit, x: Rmap) -> Scan
                 third: n,
             };
         }
-        if comes_before(r, prev) {
-            return Scan {
-                ordered: false,
-                first: n,
-                second: n,
-                third: n,
-            };
-        }
-        let h = hits(e, x, r);
-        first = note(first, n, i, h.first);
-        second = note(second, n, i, h.second);
-        third = note(third, n, i, h.third);
+        s = noted(s, e, x, r, i, n);
         prev = r;
         i += 1;
+        if i < n {
+            r = decode(list, i * RECORD);
+        }
     }
-    Scan {
-        ordered: true,
-        first,
-        second,
-        third,
-    }
+    s
 }
 
 // Questions 19, 20 and 22, and what the edit searches for.
@@ -221,4 +253,19 @@ pub(crate) fn seat(list: &[u8], z: Rmap) -> usize
         }
     }
     low
+}
+
+// The first record of a list in order that starts after x.
+pub(crate) fn after(list: &[u8], x: Rmap) -> usize
+    requires { ⌜ accepted (recordsOf rmaps (now list)) ≡ true ⌝ }
+    requires { ⌜ good x ≡ true ⌝ }
+    ensures { λ r. ⌜ r ≡ indexWhere (λ r. ltb (x .startblock) (r .startblock)) (recordsOf rmaps (now (list .entry))) ⌝ }
+{
+    let z = Rmap {
+        startblock: x.startblock + 1,
+        blockcount: 0,
+        owner: 0,
+        offset: 0,
+    };
+    seat(list, z)
 }

@@ -35,7 +35,7 @@ lines-up-requires : tie.Need-lines-up-requires
 lines-up-requires c κs = search needs
 
 returns-2 : tie.Need-returns-2
-returns-2 c = hits-insert _ _ _ (c .before .before .enum-told .given .1)
+returns-2 c = hits-insert _ _ _ (c .enum-told .given .1)
 
 returns-3 : tie.Need-returns-3
 returns-3 c = hits-shared _ _ _ _ _ _ (c .before .before .before .enum-told2 .given .1) (c .before .before .clash .ensures) (c .before .continues .ensures) (c .continues2 .ensures)
