@@ -30,11 +30,25 @@ pub finish-none : (w : Bool) (j : Joiner) (out : List ℕ) → j .count ≡ 0 �
 unfolding pending bytesOf
 finish-none w j out h = rw (eq-eqb (j .count) 0 h) (omega arith, sym (put-nil w out (j .at)))
 
+pub pending-some : (j : Joiner) → 0 < j .count → pending j ≡ recordOf j ∷ []
+unfolding pending
+pending-some j h = rw (ne-eqb (j .count) 0 (omega arith)) refl
+
 pub finish-some : (j : Joiner) → 0 < j .count → (j .at + 12 ≡ j .at + length (W (pending j))) × (refcounts .encode (recordOf j) ≡ W (pending j))
 unfolding pending bytesOf
 finish-some j h =
-    let q : pending j ≡ recordOf j ∷ [] = rw (ne-eqb (j .count) 0 (omega arith)) refl in
+    let q = pending-some j h in
     (omega (arith, length-W (pending j), ap length q), rw q (sym (append-nil (refcounts .encode (recordOf j)))))
+
+by-count : {P : Type 0} (j : Joiner) → (j .count ≡ 0 → P) → (0 < j .count → P) → P
+by-count j f g = split (eqb (j .count) 0) (λ q. f (omega tests)) (λ q. g (omega (arith, eqb-false (j .count) 0 q)))
+
+pub pending-room : (w : Bool) (j : Joiner) (n : ℕ) → Room w j n → w ≡ true → 0 < length (W (pending j)) → j .at + length (W (pending j)) ≤ n
+pending-room w j n room u v = by-count j (λ q. absurd (omega (arith, finish-none w j [] q .0))) (λ q. omega (arith, room u q, finish-some j q .0))
+
+-- room for what waits, as bytes
+pub room-pending : (w : Bool) (j : Joiner) (n : ℕ) → (w ≡ true → j .at + length (W (pending j)) ≤ n) → Room w j n
+room-pending w j n h u c = omega (arith, h u, finish-some j c .0)
 
 pub joinOn-nil : (j : Joiner) → joinOn j [] ≡ pending j
 unfolding joinOn pending joinAll joinFrom
@@ -166,14 +180,11 @@ module _ (w : Bool) (j : Joiner) (a z n : ℕ) (h : a < z) (o : 0 < n) (lies : L
         bytes = λ l. rw (first l, rest l, bytesOf-append refcounts refcounts-lawful, f) (put-put w out (j .at) at (W (pending j)) (W (joinFrom (record { startblock = a; blockcount = z - a; refcount = n }) l)) roomy e);
       }
     where
-      by-count : {P : Type 0} → (j .count ≡ 0 → P) → (0 < j .count → P) → P
-      by-count f g = split (eqb (j .count) 0) (λ q. f (omega tests)) (λ q. g (omega (arith, eqb-false (j .count) 0 q)))
-
       place : at ≤ 12 * a
-      place = by-count (λ q. omega (arith, finish-none w j out q .0, fits .place)) (λ q. omega (arith, finish-some j q .0, fits .place))
+      place = by-count j (λ q. omega (arith, finish-none w j out q .0, fits .place)) (λ q. omega (arith, finish-some j q .0, fits .place))
 
       roomy : w ≡ true → 0 < length (W (pending j)) → j .at + length (W (pending j)) ≤ length out
-      roomy u v = by-count (λ q. absurd (omega (arith, finish-none w j out q .0))) (λ q. omega (arith, room u q, finish-some j q .0))
+      roomy = pending-room w j (length out) room
 
       first : (l : List Refcount) → joinOn (record { start = a; count = z - a; owners = n; at = at }) l ≡ joinFrom (record { startblock = a; blockcount = z - a; refcount = n }) l
       first l = unfold joinOn in rw (ne-eqb (z - a) 0 (omega arith)) refl

@@ -25,3 +25,4 @@ pub mod FreeRuns
 pub mod Passing
 pub mod Staged
 pub mod Releasing
+pub mod Staying

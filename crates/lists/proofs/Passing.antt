@@ -29,7 +29,7 @@ use Rattle.lists.specs.declared.pass.Walk.{Walk}
 use Rattle.lists.specs.Release.{stop, clear, lowered, lowerAll, joinAll, release, unshared}
 use Rattle.lists.specs.Answer.{releasedOutcome, lengthsOf}
 use Rattle.lists.specs.Steps.{passOutcome, Writable, Passable}
-use Rattle.lists.specs.Passes.{putIf, run, pending, joinOn, Lies, Fits, Room, Cut, Pushed, StepAsks, Stepped}
+use Rattle.lists.specs.Passes.{putIf, run, pending, joinOn, begun, Lies, Fits, Room, Cut, Pushed, StepAsks, Stepped}
 use Rattle.lists.proofs.Cases.{split, tests, and-true}
 use Rattle.lists.proofs.Places.{goodPlace, acceptedFrom, good-place, follows-place}
 use Rattle.lists.proofs.Counts.{OfKind, shared, staged, Good, from-facts, accepted-facts}
@@ -78,7 +78,7 @@ record-lies r g n = go (g .1)
     go (staged p q t) = (record { end = q; owners = n; shared = λ u. absurd (omega arith); staging = λ u. p }, omega arith)
 
 -- the least record, or one that passed
-abbrev Passed : Refcount → Type 0
+abbrev pub Passed : Refcount → Type 0
 Passed q = (q ≡ least) ⊎ ((goodPlace q ≡ true) × (q .startblock < 2 ^ 32))
 
 follows-stop : (q r : Refcount) → Passed q → r .startblock < 2 ^ 32 → follows q r ≡ true → stop q ≤ r .startblock
@@ -100,16 +100,16 @@ pub record Walking (write : Bool) (all : List Refcount) (s e : ℕ) (new₀ free
   pub fits : Fits (w .joiner)
   pub behind : w .joiner .start + w .joiner .count ≤ stop (w .prev)
   pub counts : Going write (C (release s e all)) new₀ new₁ (w .joiner .at) (C (joinOn (w .joiner) (lowerAll s e l)))
+  pub low : s ≤ w .gap
   pub gap : w .gap ≤ 2 ^ 32
   pub place : w .free ≤ 8 * w .gap
   pub extents : Going write (bytesOf freeExtents (gaps s e all)) free₀ free₁ (w .free) (bytesOf freeExtents (gaps (w .gap) e l))
 
-pub walking-start : (write : Bool) (all : List Refcount) (s e : ℕ) (new free : List ℕ) → s ≤ 2 ^ 32
-    → Walking write all s e new free new free
-    (record { prev = least; joiner = record { start = 0; count = 0; owners = 0; at = 0 }; gap = s; free = 0; clear = true }) all
+pub walking-start : (write : Bool) (all : List Refcount) (s e : ℕ) (new free : List ℕ) (w : Walk) → w ≡ begun s → s ≤ 2 ^ 32
+    → Walking write all s e new free new free w all
 unfolding joinOn
-walking-start write all s e new free h =
-    record {
+walking-start write all s e new free w q h =
+    rw q (record {
       order = refl;
       clear = refl;
       prev = inl refl;
@@ -121,10 +121,11 @@ walking-start write all s e new free h =
           };
       behind = omega arith;
       counts = going-start write _ new _ refl;
+      low = omega arith;
       gap = h;
       place = omega arith;
       extents = going-start write _ free _ refl;
-    }
+    })
 
 -- what was lent has room where it is written
 pub record Rooms (write : Bool) (all : List Refcount) (s e room freeRoom : ℕ) : Type 0 where
@@ -183,6 +184,7 @@ module _ (write : Bool) (all : List Refcount) (s e : ℕ) (new₀ free₀ new fr
                 size = omega (arith, b .size (lowerAll s e m), inv .counts .size);
                 bytes = b .bytes (lowerAll s e m) ∙ inv .counts .bytes;
               };
+          low = omega (arith, t .gap, inv .low);
           gap = omega (arith, t .gap, inv .gap, lies .0 .end);
           place = rw (t .place, t .gap) (run-place (w .gap) (min (r .startblock) e) (stop r) (w .free) (inv .place) (omega arith));
           extents = rw (t .gap) (going-put write _ free₀ free (w .free) _ (F (run (w .gap) (min (r .startblock) e))) (F (gaps (max (w .gap) (stop r)) e m)) (inv .extents) (gaps-step (w .gap) e r m) (rooms .extents) free′ (k .free) (t .place) (t .bytes) hf);
@@ -270,3 +272,22 @@ module _ (write : Bool) (all : List Refcount) (start count : ℕ) (new₀ free�
             rw (h, k, q, a .0, b .0) refl,
             (λ u. put-done write new₀ new′ 0 _ (a .1) u, λ u. rw q (put-done write free₀ free′ 0 _ (b .1) u)),
           )
+
+-- ---- the next record of the counts b
+
+module _ (write : Bool) (b : List ℕ) (start count : ℕ) (new₀ free₀ new free : List ℕ) (w : Walk) (ask : Passable (recordsOf refcounts b) start count write (length new₀) (length free₀))
+    (bytes : IsBytes b) (i : ℕ) (r : Refcount) (inside : i < length b / 12) (read : r ≡ refcounts .decode (bytesAt b (i * 12) 12))
+    (walking : Walking write (recordsOf refcounts b) start (start + count) new₀ free₀ new free w (drop i (recordsOf refcounts b)))
+    (g : good r ≡ true) (f : follows (w .prev) r ≡ true) where
+  pub next-asks : StepAsks write start (start + count) w r (length new) (length free)
+  next-asks =
+      let fit = small b i r inside read bytes in
+      step-asks write (recordsOf refcounts b) start (start + count) new₀ free₀ new free w (rooms-of write (recordsOf refcounts b) start count new₀ free₀ ask (storable b bytes))
+      r (drop i (recordsOf refcounts b)) (drop (i + 1) (recordsOf refcounts b)) (next b i r inside read) walking (fit .0) (fit .1) g f
+
+  pub next-walking : (k : Walk) (new′ free′ : List ℕ) → length new′ ≡ length new → length free′ ≡ length free → Stepped write start (start + count) w r new free k new′ free′
+      → Walking write (recordsOf refcounts b) start (start + count) new₀ free₀ new′ free′ k (drop (i + 1) (recordsOf refcounts b))
+  next-walking =
+      let fit = small b i r inside read bytes in
+      walking-step write (recordsOf refcounts b) start (start + count) new₀ free₀ new free w (rooms-of write (recordsOf refcounts b) start count new₀ free₀ ask (storable b bytes))
+      r (drop i (recordsOf refcounts b)) (drop (i + 1) (recordsOf refcounts b)) (next b i r inside read) walking (fit .0) (fit .1) g f

@@ -8,7 +8,7 @@ use mathlib.Core.Bool.{Bool, true, false, cond}
 use mathlib.Core.List.{List, [], _∷_, _++_, append-nil}
 use lib.ListN.{length, length-append, take-append-drop}
 use Rattle.codec.specs.Bytes.{withBytes}
-use Rattle.codec.proofs.Parts.{withBytes-add}
+use Rattle.codec.proofs.Parts.{length-withBytes, withBytes-add}
 use Rattle.lists.specs.Passes.{putIf}
 
 withBytes-none : (s : List ℕ) (at : ℕ) → withBytes s at [] ≡ s
@@ -27,6 +27,12 @@ unfolding putIf
 put-put true s at k [] b h e = rw (withBytes-none s at) (ap (λ (n : ℕ). withBytes s n b) (omega arith))
 put-put true s at k (x ∷ a) b h e = rw e (withBytes-add s at (x ∷ a) b (h refl (omega arith)))
 put-put false s at k a b h e = refl
+
+pub length-put : (w : Bool) (s : List ℕ) (at : ℕ) (b : List ℕ) → (w ≡ true → 0 < length b → at + length b ≤ length s) → length (putIf w s at b) ≡ length s
+unfolding putIf
+length-put true s at [] h = ap length (withBytes-none s at)
+length-put true s at (x ∷ b) h = length-withBytes s at (x ∷ b) (h refl (omega arith))
+length-put false s at b h = refl
 
 pub put-yes : (w : Bool) (s t : List ℕ) (at : ℕ) (b : List ℕ) → w ≡ true → t ≡ withBytes s at b → t ≡ putIf w s at b
 unfolding putIf

@@ -1,7 +1,7 @@
 -- Laws of records written one run after another.
 -- Assumes nothing.
-use Prim.Native.Nat.{ℕ, zero, suc, _+_, _-_, _*_, _/_, _%_, _≤_, _<_}
-use native.Mathlib.Nat.{add-zero, add-mul, zero-mul, suc-mul, le-div-iff-mul-le}
+use Prim.Native.Nat.{ℕ, _+_, _-_, _*_, _/_, _%_, _≤_, _<_}
+use native.Mathlib.Nat.{add-zero, add-mul, le-div-iff-mul-le}
 use native.Mathlib.Numerals.{add-one}
 use native.Mathlib.Omega.{arith}
 use mathlib.Core.Path.{_≡_, refl, sym, ap, ap₂, _∙_}
@@ -58,15 +58,10 @@ module _ {R : Type 0} (k : Kind R) (law : Lawful k) where
       ∙ ap (take (b - a)) (firstRecords-add k (b - a) (n - b) rest)
       ∙ take-at (firstRecords k (b - a) rest) (firstRecords k (n - b) (drop ((b - a) * k .size) rest)) (b - a) (length-firstRecords k (b - a) rest)
 
-  first-bytes : (m : ℕ) (l : List ℕ) → m * k .size ≤ length l → (0 < m * k .size → IsBytes l) → bytesOf k (firstRecords k m l) ≡ take (m * k .size) l
-  unfolding bytesOf firstRecords
-  first-bytes zero l h b = rw zero-mul
-  first-bytes (suc m) l h b = bytesOf-firstRecords k law (suc m) l h (b (rw suc-mul (omega (arith, law .size-pos))))
-
-  pub run-bytes : (l : List ℕ) (a b : ℕ) → a ≤ b → b ≤ length l / k .size → (0 < (b - a) * k .size → IsBytes l)
+  pub run-bytes : (l : List ℕ) (a b : ℕ) → a ≤ b → b ≤ length l / k .size → IsBytes l
       → bytesAt l (a * k .size) ((b - a) * k .size) ≡ bytesOf k (take (b - a) (drop a (recordsOf k l)))
   unfolding bytesAt
-  run-bytes l a b h g bytes = rw (run-records l a b h g) (sym (first-bytes (b - a) (drop (a * k .size) l) fits (λ p. isBytes-drop (a * k .size) l (bytes p))))
+  run-bytes l a b h g bytes = rw (run-records l a b h g) (sym (bytesOf-firstRecords k law (b - a) (drop (a * k .size) l) fits (isBytes-drop (a * k .size) l bytes)))
     where
       fits : (b - a) * k .size ≤ length (drop (a * k .size) l)
       fits =
@@ -110,15 +105,15 @@ wrote-then o o₁ o₂ at m n xs ys h a b =
           ∙ ap (withBytes o at) (sym (bytesOf-append rmaps rmaps-lawful xs ys));
     }
 
--- a run copied, the first j bytes being all of it
-pub wrote-run : (o o₁ old : List ℕ) (at a b j : ℕ) → a ≤ b → b ≤ length old / 24 → j ≡ b * 24 - a * 24 → o₁ ≡ withBytes o at (bytesAt old (a * 24) j) → (0 < j → IsBytes old)
+-- a run copied, the j bytes being all of it
+pub wrote-run : (o o₁ old : List ℕ) (at a b j : ℕ) → a ≤ b → b ≤ length old / 24 → j ≡ b * 24 - a * 24 → o₁ ≡ withBytes o at (bytesAt old (a * 24) j) → IsBytes old
     → Wrote o o₁ at (run (recordsOf rmaps old) a b) (at + j)
 wrote-run o o₁ old at a b j h g e w bytes =
     let n : j ≡ (b - a) * 24 = omega arith in
     let l : List Rmap = recordsOf rmaps old in
     let long : length (run l a b) ≡ b - a = length-run l a b h (rw (length-recordsOf rmaps old) g) in
     let same : bytesAt old (a * 24) j ≡ bytesOf rmaps (run l a b) =
-    ap (bytesAt old (a * 24)) n ∙ run-bytes rmaps rmaps-lawful old a b h g (λ p. bytes (rw n p)) in
+    ap (bytesAt old (a * 24)) n ∙ run-bytes rmaps rmaps-lawful old a b h g bytes in
     record { next = rw (bytes-length (run l a b), long) (omega arith); bytes = w ∙ ap (withBytes o at) same }
 
 -- a record written, if there is one

@@ -7,3 +7,4 @@ pub mod Answer
 pub mod RmapPlans
 pub mod Steps
 pub mod Passes
+pub mod Staying

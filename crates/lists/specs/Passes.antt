@@ -9,7 +9,7 @@ use lib.Dec.{ltb, leb, eqb}
 use lib.ListN.{length}
 use Rattle.codec.specs.Bytes.{withBytes}
 use Rattle.codec.specs.Records.{Kind, bytesOf, refcounts, freeExtents}
-use Rattle.codec.specs.Refcounts.{staging, block, end}
+use Rattle.codec.specs.Refcounts.{staging, block, end, least}
 use Rattle.codec.specs.declared.refcount.Refcount.{Refcount}
 use Rattle.codec.specs.declared.free_extent.FreeExtent.{FreeExtent}
 use Rattle.lists.specs.declared.join.Joiner.{Joiner}
@@ -86,6 +86,10 @@ unfoldable pub run : ℕ → ℕ → List FreeExtent
 run a z = cond (ltb a z) (record { startblock = a; blockcount = z - a } ∷ []) []
 
 -- ---- one record of the pass
+
+-- what is carried before the first record, for an extent from s on
+abbrev pub begun : ℕ → Walk
+begun s = record { prev = least; joiner = record { start = 0; count = 0; owners = 0; at = 0 }; gap = s; free = 0; clear = true }
 
 -- what a step asks of what is carried to the record r, which is good and in order
 pub record StepAsks (write : Bool) (s e : ℕ) (w : Walk) (r : Refcount) (newRoom freeRoom : ℕ) : Type 0 where

@@ -1,4 +1,5 @@
-// One pass along the shared counts for a release. It decides 21 and 25 and adds up both lengths, or it writes both lists.
+// One pass along the shared counts for a release. It decides 21 and 25 and adds up both lengths, or it writes both lists. Behind each record it
+// steps over, it goes by the run of those that stay as they are.
 use crate::EditRefusal;
 use crate::Lengths;
 use crate::Released;
@@ -8,6 +9,8 @@ use crate::gaps::smaller;
 use crate::join::Joiner;
 use crate::join::finish;
 use crate::join::lower;
+use crate::unchanged::go_by;
+use crate::unchanged::unchanged;
 use codec::check::ListRefusal;
 use codec::refcount::Refcount;
 use codec::refcount::decode;
@@ -24,7 +27,7 @@ ghost use Rattle.codec.specs.Refcounts.{staging, block, end};
 ghost use Rattle.lists.specs.Release.{release, unshared};
 ghost use Rattle.lists.specs.Answer.{releasedOutcome, lengthsOf};
 ghost use Rattle.lists.specs.Steps.{passOutcome, Passable};
-ghost use Rattle.lists.specs.Passes.{StepAsks, Stepped};
+ghost use Rattle.lists.specs.Passes.{begun, StepAsks, Stepped};
 
 // What is carried from record to record.
 pub struct Walk {
@@ -37,6 +40,28 @@ pub struct Walk {
     pub free: usize,
     // has no record staged a block of the extent?
     pub clear: bool,
+}
+
+// Before the first record, for an extent from `s` on.
+fn begin(s: u64) -> Walk
+    ensures { λ w. ⌜ w ≡ begun s ⌝ }
+{
+    Walk {
+        prev: Refcount {
+            startblock: 0,
+            blockcount: 0,
+            refcount: 0,
+        },
+        joiner: Joiner {
+            start: 0,
+            count: 0,
+            owners: 0,
+            at: 0,
+        },
+        gap: s,
+        free: 0,
+        clear: true,
+    }
 }
 
 // Does the record stage a block from `s` up to `e`?
@@ -103,22 +128,7 @@ pub fn pass(
     let s = startblock as u64;
     let e = s + blockcount as u64;
     let n = counts.len() / 12;
-    let mut w = Walk {
-        prev: Refcount {
-            startblock: 0,
-            blockcount: 0,
-            refcount: 0,
-        },
-        joiner: Joiner {
-            start: 0,
-            count: 0,
-            owners: 0,
-            at: 0,
-        },
-        gap: s,
-        free: 0,
-        clear: true,
-    };
+    let mut w = begin(s);
     let mut i = 0;
     while i < n {
         let r = decode(counts, i * 12);
@@ -130,7 +140,10 @@ pub fn pass(
             return Released::Refused(EditRefusal::List(ListRefusal::RefcountOrder));
         }
         w = step(w, r, s, e, new, free, write);
-        i += 1;
+        let next = i + 1;
+        let j = unchanged(w, counts, next, s, e);
+        w = go_by(w, counts, next, j, new, write);
+        i = j;
     }
     let clear = w.clear;
     if !clear {

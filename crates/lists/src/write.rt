@@ -1,4 +1,5 @@
 // A planned list written: runs of the old records copied as bytes, and the new records between them.
+use crate::copy::copy;
 use crate::rmap_plans::Part;
 use crate::rmap_plans::Plan;
 use codec::rmap::Rmap;
@@ -21,11 +22,7 @@ fn copy_run(old: &[u8], a: usize, b: usize, new: &mut [u8], at: usize) -> usize
 {
     let from = a * RECORD;
     let size = b * RECORD - from;
-    let mut j = 0;
-    while j < size {
-        new[at + j] = old[from + j];
-        j += 1;
-    }
+    copy(old, from, size, new, at);
     at + size
 }
 

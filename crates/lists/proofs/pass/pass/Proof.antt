@@ -2,8 +2,8 @@
 -- Assumes nothing.
 use borrow.Author.Needs.{needs}
 use borrow.Author.Tests.{not-true, not-false}
-use Prim.Native.Nat.{_+_, _*_, _-_, _/_, _≤_}
-use mathlib.Core.Path.{_≡_, refl, sym, ap, _∙_}
+use Prim.Native.Nat.{_+_, _-_, _/_, _≤_}
+use mathlib.Core.Path.{sym, _∙_}
 use native.Mathlib.Omega.{arith}
 use lib.ListN.{length, drop}
 use denote.Ref.{now}
@@ -11,7 +11,8 @@ use Rattle.codec.specs.Bytes.{IsBytes}
 use Rattle.codec.specs.Records.{recordsOf, refcounts}
 use Rattle.codec.specs.Refcounts.{good, follows}
 use Rattle.codec.proofs.ListOrder.{order-bad, order-low}
-use Rattle.lists.proofs.Passing.{Walking, walking-start, step-asks, walking-step, next, small, no-more, storable, rooms-of, last-accepted, last-clear, finish-asks, finish-done, run-asks, run-done, told-order, told-staging, told-done}
+use Rattle.lists.proofs.Passing.{Walking, walking-start, next-asks, next-walking, no-more, storable, rooms-of, last-accepted, last-clear, finish-asks, finish-done, run-asks, run-done, told-order, told-staging, told-done}
+use Rattle.lists.proofs.Staying.{gone-asks, gone-on}
 use Rattle.lists.proofs.pass.pass.Statement.{statement}
 use Rattle.lists.proofs.pass.pass.Tie as tie
 
@@ -26,9 +27,12 @@ abbrev μ-loop : tie.MeasureT-loop
 add-e : tie.Need-add-e Inv-loop μ-loop
 add-e c = search needs
 
+begin-requires : tie.Need-begin-requires Inv-loop μ-loop
+begin-requires c κs = search needs
+
 loop-holds : tie.Need-loop-holds Inv-loop μ-loop
-loop-holds c = let x = c .before .before .before .args in
-    (omega arith, walking-start (x .write) (recordsOf refcounts (now (x .counts))) (x .startblock) (x .startblock + x .blockcount) (now (x .new)) (now (x .free)) (omega (arith, c .before .before .before .pre .end)))
+loop-holds c = let x = c .before .before .before .before .args in
+    (omega arith, walking-start (x .write) (recordsOf refcounts (now (x .counts))) (x .startblock) (x .startblock + x .blockcount) (now (x .new)) (now (x .free)) _ (c .begin .ensures) (omega (arith, c .before .before .before .before .pre .end)))
 
 mul-decode : tie.Need-mul-decode Inv-loop μ-loop
 mul-decode c = omega (arith, c .loop-test .taken)
@@ -46,11 +50,11 @@ same-length-2 : tie.Need-same-length-2 Inv-loop μ-loop
 same-length-2 c = c .before .before .before .before .loop .inv .1 .extents .kept
 
 returns : tie.Need-returns Inv-loop μ-loop
-returns c = let x = c .before .before .before .before .before .before .before .before .args in
+returns c = let x = c .before .before .before .before .before .before .before .before .before .args in
     let l = c .before .before .before .before .loop in
     let d = c .before .before .decode in
     let b = now (x .counts) in
-    told-order (x .write) (recordsOf refcounts b) (x .startblock) (x .blockcount) (now (x .new)) (now (x .free)) (c .before .before .before .before .before .before .before .before .pre) _ _
+    told-order (x .write) (recordsOf refcounts b) (x .startblock) (x .blockcount) (now (x .new)) (now (x .free)) (c .before .before .before .before .before .before .before .before .before .pre) _ _
     (l .inv .1 .order ∙ order-bad refcounts good follows b (l .i) (l .w .prev) (d .result) (c .before .before .before .loop-test .taken) (d .ensures) (sym (c .before .good2 .ensures) ∙ not-true _ (c .if1 .taken)))
 
 follows-requires : tie.Need-follows-requires Inv-loop μ-loop
@@ -63,50 +67,75 @@ same-length-4 : tie.Need-same-length-4 Inv-loop μ-loop
 same-length-4 c = c .before .before .before .before .before .before .before .loop .inv .1 .extents .kept
 
 returns-2 : tie.Need-returns-2 Inv-loop μ-loop
-returns-2 c = let x = c .before .before .before .before .before .before .before .before .before .before .before .args in
+returns-2 c = let x = c .before .before .before .before .before .before .before .before .before .before .before .before .args in
     let l = c .before .before .before .before .before .before .before .loop in
     let d = c .before .before .before .before .before .decode in
     let b = now (x .counts) in
-    told-order (x .write) (recordsOf refcounts b) (x .startblock) (x .blockcount) (now (x .new)) (now (x .free)) (c .before .before .before .before .before .before .before .before .before .before .before .pre) _ _
+    told-order (x .write) (recordsOf refcounts b) (x .startblock) (x .blockcount) (now (x .new)) (now (x .free)) (c .before .before .before .before .before .before .before .before .before .before .before .before .pre) _ _
     (l .inv .1 .order ∙ order-low refcounts good follows b (l .i) (l .w .prev) (d .result) (c .before .before .before .before .before .before .loop-test .taken) (d .ensures)
     (sym (c .before .before .before .before .good2 .ensures) ∙ not-false _ (c .before .before .before .if1 .left)) (sym (c .before .follows .ensures) ∙ not-true _ (c .if2 .taken)))
 
 step-requires : tie.Need-step-requires Inv-loop μ-loop
-step-requires c κs = let x = c .before .before .before .before .before .before .before .before .before .before .before .before .before .args in
+step-requires c κs = let x = c .before .before .before .before .before .before .before .before .before .before .before .before .before .before .args in
+    let p = c .before .before .before .before .before .before .before .before .before .before .before .before .before .before .pre in
     let l = c .before .before .before .before .before .before .before .before .before .loop in
     let d = c .before .before .before .before .before .before .before .decode in
     let b = now (x .counts) in
-    let all = recordsOf refcounts b in
-    let bytes : IsBytes b = λ i. c .before .before .before .before .before .before .before .before .before .before .before .before .shared-slice-known .given i .fits in
+    let bytes : IsBytes b = λ i. c .before .before .before .before .before .before .before .before .before .before .before .before .before .shared-slice-known .given i .fits in
     let inside = c .before .before .before .before .before .before .before .before .loop-test .taken in
-    let fit = small b (l .i) (d .result) inside (d .ensures) bytes in
-    step-asks (x .write) all (x .startblock) (x .startblock + x .blockcount) (now (x .new)) (now (x .free)) (l .new) (l .free) (l .w)
-    (rooms-of (x .write) all (x .startblock) (x .blockcount) (now (x .new)) (now (x .free)) (c .before .before .before .before .before .before .before .before .before .before .before .before .before .pre) (storable b bytes))
-    (d .result) (drop (l .i) all) (drop (l .i + 1) all) (next b (l .i) (d .result) inside (d .ensures)) (l .inv .1) (fit .0) (fit .1)
-    (sym (c .before .before .before .before .before .before .good2 .ensures) ∙ not-false _ (c .before .before .before .before .before .if1 .left)) (sym (c .before .before .before .follows .ensures) ∙ not-false _ (c .before .before .if2 .left))
+    let g = sym (c .before .before .before .before .before .before .good2 .ensures) ∙ not-false _ (c .before .before .before .before .before .if1 .left) in
+    let f = sym (c .before .before .before .follows .ensures) ∙ not-false _ (c .before .before .if2 .left) in
+    next-asks (x .write) b (x .startblock) (x .blockcount) (now (x .new)) (now (x .free)) (l .new) (l .free) (l .w) p bytes (l .i) (d .result) inside (d .ensures) (l .inv .1) g f
 
-add-i : tie.Need-add-i Inv-loop μ-loop
-add-i c = omega (arith, c .before .before .before .before .before .before .before .before .before .before .before .before .before .loop-test .taken, c .before .before .before .before .before .before .before .before .before .before .before .before .before .before .before .before .before .before .good .0 .0)
+add-next : tie.Need-add-next Inv-loop μ-loop
+add-next c = omega (arith, c .before .before .before .before .before .before .before .before .before .before .before .before .before .loop-test .taken, c .before .before .before .before .before .before .before .before .before .before .before .before .before .before .before .before .before .before .before .good .0 .0)
+
+unchanged-requires : tie.Need-unchanged-requires Inv-loop μ-loop
+unchanged-requires c κs = omega (arith, c .before .before .before .before .before .before .before .before .before .before .before .before .before .loop-test .taken)
+
+go-by-requires : tie.Need-go-by-requires Inv-loop μ-loop
+go-by-requires c κs = let x = c .before .before .before .before .before .before .before .before .before .before .before .before .before .before .before .before .before .before .before .before .before .args in
+    let p = c .before .before .before .before .before .before .before .before .before .before .before .before .before .before .before .before .before .before .before .before .before .pre in
+    let l = c .before .before .before .before .before .before .before .before .before .before .before .before .before .before .before .before .loop in
+    let d = c .before .before .before .before .before .before .before .before .before .before .before .before .before .before .decode in
+    let b = now (x .counts) in
+    let bytes : IsBytes b = λ i. c .before .before .before .before .before .before .before .before .before .before .before .before .before .before .before .before .before .before .before .before .shared-slice-known .given i .fits in
+    let inside = c .before .before .before .before .before .before .before .before .before .before .before .before .before .before .before .loop-test .taken in
+    let g = sym (c .before .before .before .before .before .before .before .before .before .before .before .before .before .good2 .ensures) ∙ not-false _ (c .before .before .before .before .before .before .before .before .before .before .before .before .if1 .left) in
+    let f = sym (c .before .before .before .before .before .before .before .before .before .before .follows .ensures) ∙ not-false _ (c .before .before .before .before .before .before .before .before .before .if2 .left) in
+    let k = c .before .before .before .before .before .before .step in
+    let new₁ = k .last .1 .1 .1 .1 .0 in
+    let free₁ = k .last .1 .1 .1 .1 .1 .0 in
+    let stepped =
+    next-walking (x .write) b (x .startblock) (x .blockcount) (now (x .new)) (now (x .free)) (l .new) (l .free) (l .w) p bytes (l .i) (d .result) inside (d .ensures) (l .inv .1) g f
+    (k .result) new₁ free₁ (k .kept .1 .1 .1 .1 .0) (k .kept .1 .1 .1 .1 .1 .0) (k .ensures) in
+    let u = c .before .unchanged .ensures in
+    gone-asks (x .write) b (x .startblock) (x .blockcount) (now (x .new)) (now (x .free)) new₁ free₁ (k .result) p bytes (l .i + 1) (c .before .unchanged .result) (u .0 .0) (u .0 .1) stepped (u .1)
 
 loop-less : tie.Need-loop-less Inv-loop μ-loop
-loop-less c = omega (arith, c .before .before .before .before .before .before .before .before .before .before .before .before .before .loop-test .taken)
+loop-less c = omega (arith, c .before .before .before .before .before .before .before .before .before .before .before .before .before .before .before .before .before .before .loop-test .taken, c .before .before .before .before .unchanged .ensures .0 .0, c .before .before .before .before .unchanged .ensures .0 .1)
 
 loop-again : tie.Need-loop-again Inv-loop μ-loop
-loop-again c = let x = c .before .before .before .before .before .before .before .before .before .before .before .before .before .before .before .before .before .before .args in
-    let l = c .before .before .before .before .before .before .before .before .before .before .before .before .before .before .loop in
-    let d = c .before .before .before .before .before .before .before .before .before .before .before .before .decode in
-    let k = c .before .before .before .before .step in
+loop-again c = let x = c .before .before .before .before .before .before .before .before .before .before .before .before .before .before .before .before .before .before .before .before .before .before .before .before .args in
+    let p = c .before .before .before .before .before .before .before .before .before .before .before .before .before .before .before .before .before .before .before .before .before .before .before .before .pre in
+    let l = c .before .before .before .before .before .before .before .before .before .before .before .before .before .before .before .before .before .before .before .loop in
+    let d = c .before .before .before .before .before .before .before .before .before .before .before .before .before .before .before .before .before .decode in
     let b = now (x .counts) in
-    let all = recordsOf refcounts b in
-    let bytes : IsBytes b = λ i. c .before .before .before .before .before .before .before .before .before .before .before .before .before .before .before .before .before .shared-slice-known .given i .fits in
-    let inside = c .before .before .before .before .before .before .before .before .before .before .before .before .before .loop-test .taken in
-    let fit = small b (l .i) (d .result) inside (d .ensures) bytes in (
-      omega (arith, inside),
-      walking-step (x .write) all (x .startblock) (x .startblock + x .blockcount) (now (x .new)) (now (x .free)) (l .new) (l .free) (l .w)
-          (rooms-of (x .write) all (x .startblock) (x .blockcount) (now (x .new)) (now (x .free)) (c .before .before .before .before .before .before .before .before .before .before .before .before .before .before .before .before .before .before .pre) (storable b bytes))
-          (d .result) (drop (l .i) all) (drop (l .i + 1) all) (next b (l .i) (d .result) inside (d .ensures)) (l .inv .1) (fit .0) (fit .1)
-          (sym (c .before .before .before .before .before .before .before .before .before .before .before .good2 .ensures) ∙ not-false _ (c .before .before .before .before .before .before .before .before .before .before .if1 .left)) (sym (c .before .before .before .before .before .before .before .before .follows .ensures) ∙ not-false _ (c .before .before .before .before .before .before .before .if2 .left))
-          (k .result) _ _ (k .kept .1 .1 .1 .1 .0) (k .kept .1 .1 .1 .1 .1 .0) (k .ensures),
+    let bytes : IsBytes b = λ i. c .before .before .before .before .before .before .before .before .before .before .before .before .before .before .before .before .before .before .before .before .before .before .before .shared-slice-known .given i .fits in
+    let inside = c .before .before .before .before .before .before .before .before .before .before .before .before .before .before .before .before .before .before .loop-test .taken in
+    let g = sym (c .before .before .before .before .before .before .before .before .before .before .before .before .before .before .before .before .good2 .ensures) ∙ not-false _ (c .before .before .before .before .before .before .before .before .before .before .before .before .before .before .before .if1 .left) in
+    let f = sym (c .before .before .before .before .before .before .before .before .before .before .before .before .before .follows .ensures) ∙ not-false _ (c .before .before .before .before .before .before .before .before .before .before .before .before .if2 .left) in
+    let k = c .before .before .before .before .before .before .before .before .before .step in
+    let new₁ = k .last .1 .1 .1 .1 .0 in
+    let free₁ = k .last .1 .1 .1 .1 .1 .0 in
+    let stepped =
+    next-walking (x .write) b (x .startblock) (x .blockcount) (now (x .new)) (now (x .free)) (l .new) (l .free) (l .w) p bytes (l .i) (d .result) inside (d .ensures) (l .inv .1) g f
+    (k .result) new₁ free₁ (k .kept .1 .1 .1 .1 .0) (k .kept .1 .1 .1 .1 .1 .0) (k .ensures) in
+    let u = c .before .before .before .before .unchanged in
+    let o = c .before .before .go-by in (
+      u .ensures .0 .1,
+      gone-on (x .write) b (x .startblock) (x .blockcount) (now (x .new)) (now (x .free)) new₁ free₁ (k .result) p bytes (l .i + 1) (u .result) (u .ensures .0 .0) (u .ensures .0 .1) stepped (u .ensures .1)
+          (o .result) _ (o .ensures),
     )
 
 same-length-5 : tie.Need-same-length-5 Inv-loop μ-loop
@@ -116,34 +145,34 @@ same-length-6 : tie.Need-same-length-6 Inv-loop μ-loop
 same-length-6 c = c .before .before .loop .inv .1 .extents .kept
 
 returns-3 : tie.Need-returns-3 Inv-loop μ-loop
-returns-3 c = let x = c .before .before .before .before .before .before .args in
+returns-3 c = let x = c .before .before .before .before .before .before .before .args in
     let l = c .before .before .loop in
     let b = now (x .counts) in
     let all = recordsOf refcounts b in
-    let bytes : IsBytes b = λ i. c .before .before .before .before .before .shared-slice-known .given i .fits in
-    let rooms = rooms-of (x .write) all (x .startblock) (x .blockcount) (now (x .new)) (now (x .free)) (c .before .before .before .before .before .before .pre) (storable b bytes) in
+    let bytes : IsBytes b = λ i. c .before .before .before .before .before .before .shared-slice-known .given i .fits in
+    let rooms = rooms-of (x .write) all (x .startblock) (x .blockcount) (now (x .new)) (now (x .free)) (c .before .before .before .before .before .before .before .pre) (storable b bytes) in
     let none = no-more b (l .i) (c .before .loop-test .left) in
-    told-staging (x .write) all (x .startblock) (x .blockcount) (now (x .new)) (now (x .free)) (c .before .before .before .before .before .before .pre) _ _
+    told-staging (x .write) all (x .startblock) (x .blockcount) (now (x .new)) (now (x .free)) (c .before .before .before .before .before .before .before .pre) _ _
     (last-accepted (x .write) all (x .startblock) (x .startblock + x .blockcount) (now (x .new)) (now (x .free)) (l .new) (l .free) (l .w) rooms _ none (l .inv .1))
     (last-clear (x .write) all (x .startblock) (x .startblock + x .blockcount) (now (x .new)) (now (x .free)) (l .new) (l .free) (l .w) rooms _ none (l .inv .1) _ (not-true _ (c .if3 .taken)))
 
 finish-requires : tie.Need-finish-requires Inv-loop μ-loop
-finish-requires c κs = let x = c .before .before .before .before .before .before .before .before .args in
+finish-requires c κs = let x = c .before .before .before .before .before .before .before .before .before .args in
     let l = c .before .before .before .before .loop in
     let b = now (x .counts) in
     let all = recordsOf refcounts b in
-    let bytes : IsBytes b = λ i. c .before .before .before .before .before .before .before .shared-slice-known .given i .fits in
+    let bytes : IsBytes b = λ i. c .before .before .before .before .before .before .before .before .shared-slice-known .given i .fits in
     finish-asks (x .write) all (x .startblock) (x .startblock + x .blockcount) (now (x .new)) (now (x .free)) (l .new) (l .free) (l .w)
-    (rooms-of (x .write) all (x .startblock) (x .blockcount) (now (x .new)) (now (x .free)) (c .before .before .before .before .before .before .before .before .pre) (storable b bytes)) _ (no-more b (l .i) (c .before .before .before .loop-test .left)) (l .inv .1)
+    (rooms-of (x .write) all (x .startblock) (x .blockcount) (now (x .new)) (now (x .free)) (c .before .before .before .before .before .before .before .before .before .pre) (storable b bytes)) _ (no-more b (l .i) (c .before .before .before .loop-test .left)) (l .inv .1)
 
 put-run-requires : tie.Need-put-run-requires Inv-loop μ-loop
-put-run-requires c κs = let x = c .before .before .before .before .before .before .before .before .before .before .before .before .args in
+put-run-requires c κs = let x = c .before .before .before .before .before .before .before .before .before .before .before .before .before .args in
     let l = c .before .before .before .before .before .before .before .before .loop in
     let b = now (x .counts) in
     let all = recordsOf refcounts b in
-    let bytes : IsBytes b = λ i. c .before .before .before .before .before .before .before .before .before .before .before .shared-slice-known .given i .fits in
+    let bytes : IsBytes b = λ i. c .before .before .before .before .before .before .before .before .before .before .before .before .shared-slice-known .given i .fits in
     run-asks (x .write) all (x .startblock) (x .startblock + x .blockcount) (now (x .new)) (now (x .free)) (l .new) (l .free) (l .w)
-    (rooms-of (x .write) all (x .startblock) (x .blockcount) (now (x .new)) (now (x .free)) (c .before .before .before .before .before .before .before .before .before .before .before .before .pre) (storable b bytes)) _ (no-more b (l .i) (c .before .before .before .before .before .before .before .loop-test .left)) (l .inv .1)
+    (rooms-of (x .write) all (x .startblock) (x .blockcount) (now (x .new)) (now (x .free)) (c .before .before .before .before .before .before .before .before .before .before .before .before .before .pre) (storable b bytes)) _ (no-more b (l .i) (c .before .before .before .before .before .before .before .loop-test .left)) (l .inv .1)
 
 same-length-7 : tie.Need-same-length-7 Inv-loop μ-loop
 same-length-7 c = let l = c .before .before .before .before .before .before .before .before .before .before .before .loop in c .before .before .before .before .before .before .finish .kept .1 .0 ∙ l .inv .1 .counts .kept
@@ -152,17 +181,17 @@ same-length-8 : tie.Need-same-length-8 Inv-loop μ-loop
 same-length-8 c = let l = c .before .before .before .before .before .before .before .before .before .before .before .loop in c .before .before .put-run .kept .0 ∙ l .inv .1 .extents .kept
 
 returns-4 : tie.Need-returns-4 Inv-loop μ-loop
-returns-4 c = let x = c .before .before .before .before .before .before .before .before .before .before .before .before .before .before .before .args in
+returns-4 c = let x = c .before .before .before .before .before .before .before .before .before .before .before .before .before .before .before .before .args in
     let l = c .before .before .before .before .before .before .before .before .before .before .before .loop in
     let b = now (x .counts) in
     let all = recordsOf refcounts b in
-    let bytes : IsBytes b = λ i. c .before .before .before .before .before .before .before .before .before .before .before .before .before .before .shared-slice-known .given i .fits in
+    let bytes : IsBytes b = λ i. c .before .before .before .before .before .before .before .before .before .before .before .before .before .before .before .shared-slice-known .given i .fits in
     let stored = storable b bytes in
-    let rooms = rooms-of (x .write) all (x .startblock) (x .blockcount) (now (x .new)) (now (x .free)) (c .before .before .before .before .before .before .before .before .before .before .before .before .before .before .before .pre) stored in
+    let rooms = rooms-of (x .write) all (x .startblock) (x .blockcount) (now (x .new)) (now (x .free)) (c .before .before .before .before .before .before .before .before .before .before .before .before .before .before .before .before .pre) stored in
     let none = no-more b (l .i) (c .before .before .before .before .before .before .before .before .before .before .loop-test .left) in
     let f = c .before .before .before .before .before .before .finish in
     let g = c .before .before .put-run in
-    told-done (x .write) all (x .startblock) (x .blockcount) (now (x .new)) (now (x .free)) (c .before .before .before .before .before .before .before .before .before .before .before .before .before .before .before .pre) _ _
+    told-done (x .write) all (x .startblock) (x .blockcount) (now (x .new)) (now (x .free)) (c .before .before .before .before .before .before .before .before .before .before .before .before .before .before .before .before .pre) _ _
     (last-accepted (x .write) all (x .startblock) (x .startblock + x .blockcount) (now (x .new)) (now (x .free)) (l .new) (l .free) (l .w) rooms _ none (l .inv .1))
     (f .result) (g .result) stored
     (last-clear (x .write) all (x .startblock) (x .startblock + x .blockcount) (now (x .new)) (now (x .free)) (l .new) (l .free) (l .w) rooms _ none (l .inv .1) _ (not-false _ (c .before .before .before .before .before .before .before .before .before .if3 .left)))
@@ -176,6 +205,7 @@ pass-spec =
     Inv-loop
     μ-loop
     add-e
+    begin-requires
     loop-holds
     mul-decode
     decode-requires
@@ -188,7 +218,9 @@ pass-spec =
     same-length-4
     returns-2
     step-requires
-    add-i
+    add-next
+    unchanged-requires
+    go-by-requires
     loop-less
     loop-again
     same-length-5
