@@ -2,6 +2,7 @@
 //! time of the calling thread, the shortest of several runs.
 
 use crate::library::{self, Edit};
+use oracle::refusal::Outcome;
 use oracle::rmap::Rmap;
 use oracle::sample::{self, Image};
 use oracle::timing::best;
@@ -168,6 +169,14 @@ fn trees(rows: &mut Vec<Row>) {
     }
 }
 
+fn original_edit(e: Edit, old: &[u8], x: Rmap) -> Outcome<Vec<u8>> {
+    match e {
+        Edit::Insert => bare::insert(old, x),
+        Edit::InsertShared => bare::insert_shared(old, x),
+        Edit::Remove => bare::remove(old, x),
+    }
+}
+
 fn edits(rows: &mut Vec<Row>) {
     for e in Edit::ALL {
         for n in [100_000, 200_000] {
@@ -198,14 +207,22 @@ fn edits(rows: &mut Vec<Row>) {
                 e.name(),
                 format!("{n} records"),
                 || assert_eq!(library::edit(e, &old, x, &mut new).number, 0),
-                || match e {
-                    Edit::Insert => bare::insert(&old, x),
-                    Edit::InsertShared => bare::insert_shared(&old, x),
-                    Edit::Remove => bare::remove(&old, x),
-                },
+                || original_edit(e, &old, x),
             ));
+            let told = original_edit(e, &old, x).accepted().expect("an edit");
+            let said = library::edit(e, &old, x, &mut new);
+            assert!(new[..said.figures[0] as usize] == told[..]);
         }
     }
+}
+
+fn same_release(old: &[u8], start: u32, count: u32, new: &mut [u8], free: &mut [u8]) {
+    let told = bare::release(old, start, count)
+        .accepted()
+        .expect("a release");
+    let said = library::release(old, start, count, new, free);
+    assert!(new[..said.figures[0] as usize] == told.counts[..]);
+    assert!(free[..said.figures[1] as usize] == told.free[..]);
 }
 
 fn releases(rows: &mut Vec<Row>) {
@@ -235,6 +252,7 @@ fn releases(rows: &mut Vec<Row>) {
                 },
                 || bare::release(&old, start, count),
             ));
+            same_release(&old, start, count, &mut new, &mut free);
         }
     }
     // Side by side with as many owners: any release joins the whole list.
@@ -245,6 +263,7 @@ fn releases(rows: &mut Vec<Row>) {
         let (l, _) = best(TIMES, || {
             assert_eq!(library::release(&old, 5, 1, &mut new, &mut free).number, 0);
         });
+        same_release(&old, 5, 1, &mut new, &mut free);
         // The original moves the rest of the list at each join.
         let (o, _) = best(1, || bare::release(&old, 5, 1));
         rows.push(Row {
@@ -281,6 +300,15 @@ fn lets_go(rows: &mut Vec<Row>) {
                 )
             },
         ));
+        let [a, b, c] = &mut new;
+        let said = library::let_go(&map, &counts, x, a, b, c);
+        let told = bare::remove(&map, x).accepted().expect("a removal");
+        assert!(a[..said.figures[0] as usize] == told[..]);
+        let told = bare::release(&counts, x.startblock, x.blockcount)
+            .accepted()
+            .expect("a release");
+        assert!(b[..said.figures[1] as usize] == told.counts[..]);
+        assert!(c[..said.figures[2] as usize] == told.free[..]);
     }
 }
 
