@@ -7,7 +7,7 @@ ghost use Rattle.codec.specs.Bytes.{bytesAt, withBytes};
 ghost use Rattle.lists.specs.Passes.{putIf};
 
 // Copies `size` bytes of `old` from the place `from` on to the place `at` of `new`.
-pub fn copy(old: &[u8], from: usize, size: usize, new: &mut [u8], at: usize)
+pub(crate) fn copy(old: &[u8], from: usize, size: usize, new: &mut [u8], at: usize)
     requires { ⌜ (from + size ≤ length (now old)) × (at + size ≤ length (now new)) ⌝ }
     ensures { λ _. ⌜ now (new .exit) ≡ withBytes (now (new .entry)) at (bytesAt (now (old .entry)) from size) ⌝ }
 {
@@ -19,7 +19,7 @@ pub fn copy(old: &[u8], from: usize, size: usize, new: &mut [u8], at: usize)
 }
 
 // The same with `write`; else nothing.
-pub fn copy_if(old: &[u8], from: usize, size: usize, new: &mut [u8], at: usize, write: bool)
+pub(crate) fn copy_if(old: &[u8], from: usize, size: usize, new: &mut [u8], at: usize, write: bool)
     requires { ⌜ from + size ≤ length (now old) ⌝ }
     requires { ⌜ (write ≡ true → at + size ≤ length (now new)) ⌝ }
     ensures { λ _. ⌜ now (new .exit) ≡ putIf write (now (new .entry)) at (bytesAt (now (old .entry)) from size) ⌝ }

@@ -9,7 +9,7 @@ ghost use Rattle.codec.specs.Records.{Kind, bytesOf, freeExtents};
 ghost use Rattle.lists.specs.Passes.{putIf, run};
 
 // The smaller of two numbers.
-pub fn smaller(x: u64, y: u64) -> u64
+pub(crate) fn smaller(x: u64, y: u64) -> u64
     ensures { λ r. ⌜ r ≡ min x y ⌝ }
 {
     if x <= y {
@@ -19,7 +19,7 @@ pub fn smaller(x: u64, y: u64) -> u64
 }
 
 // The larger of two numbers.
-pub fn larger(x: u64, y: u64) -> u64
+pub(crate) fn larger(x: u64, y: u64) -> u64
     ensures { λ r. ⌜ r ≡ max x y ⌝ }
 {
     if x <= y {
@@ -29,7 +29,7 @@ pub fn larger(x: u64, y: u64) -> u64
 }
 
 // The place behind a free extent at `at` from block `a` up to `z`; there is none if there is no block. With `write` it is put into `free`.
-pub fn put_run(free: &mut [u8], at: usize, a: u64, z: u64, write: bool) -> usize
+pub(crate) fn put_run(free: &mut [u8], at: usize, a: u64, z: u64, write: bool) -> usize
     requires { ⌜ (at ≤ 2 ^ 36) × (z ≤ 2 ^ 31) ⌝ }
     requires { ⌜ (write ≡ true → at + length (bytesOf freeExtents (run a z)) ≤ length (now free)) ⌝ }
     ensures { λ r. ⌜ r ≡ at + length (bytesOf freeExtents (run a z)) ⌝ }

@@ -19,7 +19,7 @@ pub struct Joiner {
 }
 
 // Finishes the record that waits, and says the place behind it. With `write` it is put into `new`.
-pub fn finish(j: Joiner, new: &mut [u8], write: bool) -> usize
+pub(crate) fn finish(j: Joiner, new: &mut [u8], write: bool) -> usize
     requires { ⌜ Fits j ⌝ }
     requires { ⌜ Room write j (length (now new)) ⌝ }
     ensures { λ r. ⌜ r ≡ j .at + length (bytesOf refcounts (pending j)) ⌝ }
@@ -136,7 +136,7 @@ fn cut(j: Joiner, r: Refcount, s: u64, e: u64, new: &mut [u8], write: bool) -> J
 }
 
 // The next record: one that the extent does not meet stays whole.
-pub fn lower(j: Joiner, r: Refcount, s: u64, e: u64, new: &mut [u8], write: bool) -> Joiner
+pub(crate) fn lower(j: Joiner, r: Refcount, s: u64, e: u64, new: &mut [u8], write: bool) -> Joiner
     requires { ⌜ Cut write s e j r (length (now new)) ⌝ }
     ensures { λ k. ⌜ Pushed write j (now (new .entry)) (lowered s e r) (stop r) k (now (new .exit)) ⌝ }
 {

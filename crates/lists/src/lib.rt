@@ -1,15 +1,15 @@
 // Edits of the two lists of a group: extents taken and given up in the reverse map, and counts lowered.
 use codec::check::ListRefusal;
 
-pub mod copy;
-pub mod gaps;
-pub mod join;
-pub mod pass;
+mod copy;
+mod gaps;
+mod join;
+mod pass;
 pub mod refcounts;
 pub mod rmap_edits;
 pub mod rmap_plans;
-pub mod search;
-pub mod unchanged;
+mod search;
+mod unchanged;
 pub mod write;
 
 // Why an edit is refused. Document 01's number of each case is `editNumber` of specs/Answer.antt.

@@ -112,7 +112,7 @@ fn step(w: Walk, r: Refcount, s: u64, e: u64, new: &mut [u8], free: &mut [u8], w
 
 // Asks 21 and 25 of a good extent, and gives both lengths. With `write`, where both questions hold and both lists fit, the new counts go into
 // `new` and the free extents into `free`; else nothing is written.
-pub fn pass(
+pub(crate) fn pass(
     counts: &[u8],
     startblock: u32,
     blockcount: u32,

@@ -91,7 +91,7 @@ fn inside(place: u64, s: u64, e: u64) -> bool {
 }
 
 // The end of a run of records that a release of `s` up to `e` leaves as they are, from number i on; i if there is none.
-pub fn unchanged(w: Walk, counts: &[u8], i: usize, s: u64, e: u64) -> usize
+pub(crate) fn unchanged(w: Walk, counts: &[u8], i: usize, s: u64, e: u64) -> usize
     requires { ⌜ i ≤ length (now counts) / 12 ⌝ }
     ensures { λ j. ⌜ (i ≤ j) × (j ≤ length (now (counts .entry)) / 12) ⌝ }
     ensures { λ j. ⌜ Unchanged s e w (part (recordsOf refcounts (now (counts .entry))) i j) ⌝ }
@@ -107,7 +107,7 @@ pub fn unchanged(w: Walk, counts: &[u8], i: usize, s: u64, e: u64) -> usize
 }
 
 // Carries on behind the records from number i up to j, which stay. The last one waits; with `write` those before it are copied.
-pub fn go_by(w: Walk, counts: &[u8], i: usize, j: usize, new: &mut [u8], write: bool) -> Walk
+pub(crate) fn go_by(w: Walk, counts: &[u8], i: usize, j: usize, new: &mut [u8], write: bool) -> Walk
     requires { ⌜ GoneAsks write w i j (now counts) (length (now new)) ⌝ }
     ensures { λ k. ⌜ Gone write w (part (recordsOf refcounts (now (counts .entry))) i j) (now (new .entry)) k (now (new .exit)) ⌝ }
 {
