@@ -1,24 +1,19 @@
 // Blocks that pass the check, and blocks refused by each of questions 1 to 10: each is stamped, then damaged. A line has the answer's number
 // and, where there are two numbers, what was expected and what was found. `stdout` was worked out apart from this code.
-use blocks::check::BlockRefusal;
 use blocks::check::Checked;
-use blocks::check::Field;
 use blocks::check::Header;
 use blocks::check::check_block;
 use blocks::geometry::AgBlock;
 use blocks::geometry::Geometry;
-use blocks::geometry::NULL_AGBLOCK;
 use blocks::kind::TreeKind;
-use blocks::kind::header_len;
-use blocks::stamp::stamp;
-use codec::crc::crc32c_with_zeroed_crc;
 use codec::endian::be64;
-use codec::endian::put_le32;
-
-fn number(name: &[u8], n: u64) {
-    io::write_all(1, name);
-    io::print_decimal(1, n);
-}
+use show::lines::newline;
+use show::lines::number;
+use show::lines::show_block_refusal;
+use show::samples::between;
+use show::samples::damage;
+use show::samples::fresh;
+use show::samples::geometry;
 
 fn show_good(h: Header) {
     number(b" good level ", h.level as u64);
@@ -27,68 +22,18 @@ fn show_good(h: Header) {
     number(b" capacity ", h.maxrecs as u64);
 }
 
-fn show_two(n: u64, expected: u64, found: u64) {
-    number(b" refused ", n);
-    number(b" expected ", expected);
-    number(b" found ", found);
-}
-
-fn show_field(f: Field) {
-    match f {
-        Field::Magic { expected, found } => show_two(4, expected, found),
-        Field::Crc { expected, found } => show_two(5, expected, found),
-        Field::Owner { expected, found } => show_two(7, expected, found),
-        Field::Address { expected, found } => show_two(8, expected, found),
-        Field::Level { expected, found } => show_two(9, expected, found),
-        Field::Records { expected, found } => show_two(10, expected, found),
-    }
-}
-
-fn show_refusal(r: BlockRefusal) {
-    match r {
-        BlockRefusal::BadGeometry => number(b" refused ", 1),
-        BlockRefusal::Short => number(b" refused ", 2),
-        BlockRefusal::NoTree => number(b" refused ", 3),
-        BlockRefusal::Uuid => number(b" refused ", 6),
-        BlockRefusal::BadField(f) => show_field(f),
-    }
-}
-
 fn show(name: &[u8], answer: Checked) {
     io::write_all(1, name);
     match answer {
         Checked::Good(h) => show_good(h),
-        Checked::Refused(r) => show_refusal(r),
+        Checked::Refused(r) => show_block_refusal(r),
     }
-    io::write_all(1, b"\n");
+    newline();
 }
 
 // The group 3 of a volume with blocks of 512 bytes.
-fn geometry(version: u16) -> Geometry {
-    Geometry {
-        version: version,
-        blocksize: 512,
-        agblocks: 1000,
-        agno: 3,
-        meta_uuid: [
-            16u8,
-            17,
-            18,
-            19,
-            20,
-            21,
-            22,
-            23,
-            24,
-            25,
-            26,
-            27,
-            28,
-            29,
-            30,
-            31,
-        ],
-    }
+fn group(version: u16) -> Geometry {
+    geometry(version, 512, 1000)
 }
 
 // Another geometry, with a buffer of no bytes: 1, or 2 where the geometry is good.
@@ -104,72 +49,9 @@ fn show_geometry(name: &[u8], version: u16, blocksize: u32, agno: u32, agblocks:
     show(name, check_block(g, TreeKind::Rmap, AgBlock(0), 0, &b[..0]));
 }
 
-// A fresh block between two siblings, where the geometry is good and the header fits.
-fn between(
-    g: Geometry,
-    kind: TreeKind,
-    block: u32,
-    level: u16,
-    numrecs: u16,
-    left: u32,
-    right: u32,
-    b: &mut [u8],
-) {
-    if !g.is_ok() {
-        return;
-    }
-    let version = g.version;
-    let header = header_len(version);
-    if b.len() < header {
-        return;
-    }
-    stamp(
-        g,
-        kind,
-        AgBlock(block),
-        level,
-        numrecs,
-        AgBlock(left),
-        AgBlock(right),
-        b,
-    );
-}
-
-// A fresh block with no siblings.
-fn fresh(g: Geometry, kind: TreeKind, block: u32, level: u16, numrecs: u16, b: &mut [u8]) {
-    between(
-        g,
-        kind,
-        block,
-        level,
-        numrecs,
-        NULL_AGBLOCK,
-        NULL_AGBLOCK,
-        b,
-    );
-}
-
-// The check put in again, where asked.
-fn seal(b: &mut [u8], again: bool) {
-    if !again {
-        return;
-    }
-    if b.len() < 56 {
-        return;
-    }
-    let crc = crc32c_with_zeroed_crc(b, 52);
-    put_le32(b, 52, crc);
-}
-
-fn put(b: &mut [u8], at: usize, value: u8) {
-    if at < b.len() {
-        b[at] = value;
-    }
-}
-
 // A block of `kind`, number 7 of its group, stamped with a level and a number of records, and checked as it is.
 fn show_fresh(name: &[u8], version: u16, kind: TreeKind, level: u16, numrecs: u16) {
-    let g = geometry(version);
+    let g = group(version);
     let mut b = [0u8; 512];
     fresh(g, kind, 7, level, numrecs, &mut b);
     show(name, check_block(g, kind, AgBlock(7), level, &b));
@@ -177,17 +59,16 @@ fn show_fresh(name: &[u8], version: u16, kind: TreeKind, level: u16, numrecs: u1
 
 // A node of the reverse map, number 7 of its group, with 3 entries, damaged at one byte, its check put in again or not.
 fn show_damaged(name: &[u8], at: usize, value: u8, again: bool) {
-    let g = geometry(5);
+    let g = group(5);
     let mut b = [0u8; 512];
     fresh(g, TreeKind::Rmap, 7, 1, 3, &mut b);
-    put(&mut b, at, value);
-    seal(&mut b, again);
+    damage(&mut b, at, value, again);
     show(name, check_block(g, TreeKind::Rmap, AgBlock(7), 1, &b));
 }
 
 // The same block, undamaged, taken for another one.
 fn show_as(name: &[u8], kind: TreeKind, block: u32, level: u16) {
-    let g = geometry(5);
+    let g = group(5);
     let mut b = [0u8; 512];
     fresh(g, TreeKind::Rmap, 7, 1, 3, &mut b);
     show(name, check_block(g, kind, AgBlock(block), level, &b));
@@ -195,14 +76,14 @@ fn show_as(name: &[u8], kind: TreeKind, block: u32, level: u16) {
 
 // A leaf of the counts with no records, of all the bytes of `b`.
 fn show_small(name: &[u8], version: u16, b: &mut [u8]) {
-    let g = geometry(version);
+    let g = group(version);
     fresh(g, TreeKind::Refcount, 7, 0, 0, b);
     show(name, check_block(g, TreeKind::Refcount, AgBlock(7), 0, b));
 }
 
 // The header of a fresh block with siblings, eight bytes at a time.
 fn show_header(name: &[u8], version: u16) {
-    let g = geometry(version);
+    let g = group(version);
     let mut b = [0u8; 512];
     between(
         g,
@@ -215,7 +96,7 @@ fn show_header(name: &[u8], version: u16) {
         &mut b,
     );
     io::write_all(1, name);
-    io::write_all(1, b"\n");
+    newline();
     words(&b);
 }
 
@@ -234,7 +115,7 @@ fn words(b: &[u8]) {
 
 fn word(n: u64) {
     io::print_hex(1, n, 16);
-    io::write_all(1, b"\n");
+    newline();
 }
 
 fn geometries() {

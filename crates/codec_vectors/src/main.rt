@@ -1,38 +1,26 @@
 // RFC 3720's vectors of CRC32C (B.4), a block's check put into its own field and left out again, and lists that questions 19 to 21 accept and
 // refuse.
 use codec::check::ListChecked;
-use codec::check::ListRefusal;
 use codec::crc;
 use codec::endian;
+use show::lines::list_number;
+use show::lines::newline;
+use show::lines::number;
 
 fn line(name: &[u8], check: u32) {
     io::write_all(1, name);
     io::write_all(1, b" ");
     io::print_hex(1, check as u64, 8);
-    io::write_all(1, b"\n");
-}
-
-fn number(r: ListRefusal) -> u64 {
-    match r {
-        ListRefusal::Length => 19,
-        ListRefusal::RmapOrder => 20,
-        ListRefusal::RefcountOrder => 21,
-    }
+    newline();
 }
 
 fn answer(name: &[u8], r: ListChecked) {
     io::write_all(1, name);
     match r {
-        ListChecked::Accepted(n) => {
-            io::write_all(1, b" accepted ");
-            io::print_decimal(1, n as u64);
-        }
-        ListChecked::Refused(e) => {
-            io::write_all(1, b" refused ");
-            io::print_decimal(1, number(e));
-        }
+        ListChecked::Accepted(n) => number(b" accepted ", n as u64),
+        ListChecked::Refused(e) => number(b" refused ", list_number(e)),
     }
-    io::write_all(1, b"\n");
+    newline();
 }
 
 fn rmaps(name: &[u8], list: &[u8]) {

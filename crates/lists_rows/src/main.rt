@@ -1,6 +1,4 @@
 // Edits of both lists, run: the answer, then each output in hexadecimal. eeeeeeee was not written.
-use codec::check::ListRefusal;
-use codec::endian::be32;
 use codec::rmap::Rmap;
 use lists::EditRefusal;
 use lists::Edited;
@@ -9,16 +7,12 @@ use lists::rmap_edits::insert;
 use lists::rmap_edits::insert_shared;
 use lists::rmap_edits::remove;
 use lists::rmap_plans::Edit;
+use show::lines::list_number;
+use show::lines::newline;
+use show::lines::number;
+use show::lines::words;
 
-fn list_number(r: ListRefusal) -> u64 {
-    match r {
-        ListRefusal::Length => 19,
-        ListRefusal::RmapOrder => 20,
-        ListRefusal::RefcountOrder => 21,
-    }
-}
-
-fn number(r: EditRefusal) -> u64 {
+fn edit_number(r: EditRefusal) -> u64 {
     match r {
         EditRefusal::List(l) => list_number(l),
         EditRefusal::Extent => 22,
@@ -29,29 +23,13 @@ fn number(r: EditRefusal) -> u64 {
     }
 }
 
-fn words(b: &[u8]) {
-    let mut i = 0;
-    while 4 <= b.len() - i {
-        io::write_all(1, b" ");
-        io::print_hex(1, be32(b, i) as u64, 8);
-        i += 4;
-    }
-    io::write_all(1, b"\n");
-}
-
 fn answer(name: &[u8], r: Edited) {
     io::write_all(1, name);
     match r {
-        Edited::Done(n) => {
-            io::write_all(1, b" done ");
-            io::print_decimal(1, n as u64);
-        }
-        Edited::Refused(q) => {
-            io::write_all(1, b" refused ");
-            io::print_decimal(1, number(q));
-        }
+        Edited::Done(n) => number(b" done ", n as u64),
+        Edited::Refused(q) => number(b" refused ", edit_number(q)),
     }
-    io::write_all(1, b"\n");
+    newline();
 }
 
 fn run(e: Edit, old: &[u8], x: Rmap, new: &mut [u8]) -> Edited {
@@ -130,18 +108,12 @@ fn let_go(counts: &[u8], startblock: u32, blockcount: u32) {
     let r = lists::refcounts::release(counts, startblock, blockcount, &mut new, &mut free);
     match r {
         Released::Done(lengths) => {
-            io::write_all(1, b"done ");
-            io::print_decimal(1, lengths.counts as u64);
-            io::write_all(1, b" ");
-            io::print_decimal(1, lengths.free as u64);
-            io::write_all(1, b"\n");
+            number(b"done ", lengths.counts as u64);
+            number(b" ", lengths.free as u64);
         }
-        Released::Refused(why) => {
-            io::write_all(1, b"refused ");
-            io::print_decimal(1, number(why));
-            io::write_all(1, b"\n");
-        }
+        Released::Refused(why) => number(b"refused ", edit_number(why)),
     }
+    newline();
     words(&new);
     words(&free);
 }

@@ -16,6 +16,9 @@ use exports::list_calls::kf_remove;
 use exports::tree_calls::kf_build;
 use exports::tree_calls::kf_plan;
 use exports::tree_calls::kf_walk;
+use show::lines;
+use show::places::all32;
+use show::places::all64;
 
 // Number i of some: each has 4 bytes.
 fn number(bytes: &[u8], i: usize) -> u32 {
@@ -167,29 +170,6 @@ fn on_build(head: &[u8], list: &[u8], bytes: &[u8], out: &mut [u8], all: &mut [u
     build(head, list, numbers, out)
 }
 
-// Are all places of a list that number?
-fn all_places(list: &[u32], v: u32) -> bool {
-    let mut i = 0;
-    while i < list.len() {
-        if list[i] != v {
-            return false;
-        }
-        i += 1;
-    }
-    true
-}
-
-fn all_wide_places(list: &[u64], v: u64) -> bool {
-    let mut i = 0;
-    while i < list.len() {
-        if list[i] != v {
-            return false;
-        }
-        i += 1;
-    }
-    true
-}
-
 fn numbers_as_due(list: &[u32], due: &[u8]) -> bool {
     let mut i = 0;
     while i < list.len() {
@@ -234,8 +214,8 @@ fn walk(
     } else {
         0
     };
-    all_places(stack, left)
-        && all_wide_places(scratch, left as u64)
+    all32(stack, left)
+        && all64(scratch, left as u64)
         && numbers_as_due(blocks, due)
         && said_as_due(head, answer, said)
 }
@@ -518,11 +498,9 @@ fn next() -> u8 {
 }
 
 fn show(cases: u64, same: u64) {
-    io::write_all(1, b"cases ");
-    io::print_decimal(1, cases);
-    io::write_all(1, b" same ");
-    io::print_decimal(1, same);
-    io::write_all(1, b"\n");
+    lines::number(b"cases ", cases);
+    lines::number(b" same ", same);
+    lines::newline();
 }
 
 fn main() {

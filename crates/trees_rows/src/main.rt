@@ -2,21 +2,24 @@
 // builds and walks refused by each question. A walk's line ends with what became of the lists and scratches. `stdout` was worked out apart
 // from this code.
 ghost use Prim.Native.Nat.{_<_};
-use blocks::check::BlockRefusal;
-use blocks::check::Field;
 use blocks::geometry::AgBlock;
 use blocks::geometry::Geometry;
-use blocks::geometry::NULL_AGBLOCK;
 use blocks::kind::TreeKind;
-use blocks::kind::header_len;
-use blocks::stamp::stamp;
-use codec::check::ListRefusal;
-use codec::crc::crc32c_with_zeroed_crc;
-use codec::endian::be32;
+use check::same;
 use codec::endian::put_be32;
-use codec::endian::put_le32;
 use codec::rmap::Rmap;
 use codec::rmap::encode;
+use show::lines::list_number;
+use show::lines::newline;
+use show::lines::number;
+use show::lines::show_block_refusal;
+use show::lines::words;
+use show::places::all8;
+use show::places::all32;
+use show::places::all64;
+use show::samples::damage;
+use show::samples::fresh;
+use show::samples::geometry;
 use trees::build::BuildRefusal;
 use trees::build::Built;
 use trees::build::build;
@@ -27,106 +30,11 @@ use trees::walk::WalkRefusal;
 use trees::walk::Walked;
 use trees::walk::walk;
 
-fn number(name: &[u8], n: u64) {
-    io::write_all(1, name);
-    io::print_decimal(1, n);
-}
-
-fn newline() {
-    io::write_all(1, b"\n");
-}
-
 fn either(first: bool, a: &[u8], b: &[u8]) {
     if first {
         io::write_all(1, a);
     } else {
         io::write_all(1, b);
-    }
-}
-
-// Four bytes at a time, on one line.
-fn words(b: &[u8]) {
-    let mut i = 0;
-    while 4 <= b.len() - i {
-        io::write_all(1, b" ");
-        io::print_hex(1, be32(b, i) as u64, 8);
-        i += 4;
-    }
-    io::write_all(1, b"\n");
-}
-
-fn all8(b: &[u8], value: u8) -> bool {
-    let mut i = 0;
-    while i < b.len() {
-        if b[i] != value {
-            return false;
-        }
-        i += 1;
-    }
-    true
-}
-
-fn all32(b: &[u32], value: u32) -> bool {
-    let mut i = 0;
-    while i < b.len() {
-        if b[i] != value {
-            return false;
-        }
-        i += 1;
-    }
-    true
-}
-
-fn all64(b: &[u64], value: u64) -> bool {
-    let mut i = 0;
-    while i < b.len() {
-        if b[i] != value {
-            return false;
-        }
-        i += 1;
-    }
-    true
-}
-
-fn same(a: &[u8], b: &[u8]) -> bool {
-    if a.len() != b.len() {
-        return false;
-    }
-    let mut i = 0;
-    while i < a.len() {
-        if a[i] != b[i] {
-            return false;
-        }
-        i += 1;
-    }
-    true
-}
-
-// The group 3 of a volume.
-fn geometry(version: u16, blocksize: u32, agblocks: u32) -> Geometry {
-    Geometry {
-        version: version,
-        blocksize: blocksize,
-        agblocks: agblocks,
-        agno: 3,
-        meta_uuid: [
-            16u8,
-            17,
-            18,
-            19,
-            20,
-            21,
-            22,
-            23,
-            24,
-            25,
-            26,
-            27,
-            28,
-            29,
-            30,
-            31,
-        ],
     }
 }
 
@@ -233,14 +141,6 @@ fn plant(image: &mut [u8]) {
     place(&out, &at, image);
 }
 
-fn list_number(r: ListRefusal) -> u64 {
-    match r {
-        ListRefusal::Length => 19,
-        ListRefusal::RmapOrder => 20,
-        ListRefusal::RefcountOrder => 21,
-    }
-}
-
 fn build_number(r: BuildRefusal) -> u64 {
     match r {
         BuildRefusal::BadGeometry => 1,
@@ -323,33 +223,6 @@ fn root() {
     let mut image = [0xEEu8; 10240];
     plant(&mut image);
     show_root(&image);
-}
-
-fn show_two(n: u64, expected: u64, found: u64) {
-    number(b" refused ", n);
-    number(b" expected ", expected);
-    number(b" found ", found);
-}
-
-fn show_field(f: Field) {
-    match f {
-        Field::Magic { expected, found } => show_two(4, expected, found),
-        Field::Crc { expected, found } => show_two(5, expected, found),
-        Field::Owner { expected, found } => show_two(7, expected, found),
-        Field::Address { expected, found } => show_two(8, expected, found),
-        Field::Level { expected, found } => show_two(9, expected, found),
-        Field::Records { expected, found } => show_two(10, expected, found),
-    }
-}
-
-fn show_block_refusal(r: BlockRefusal) {
-    match r {
-        BlockRefusal::BadGeometry => number(b" refused ", 1),
-        BlockRefusal::Short => number(b" refused ", 2),
-        BlockRefusal::NoTree => number(b" refused ", 3),
-        BlockRefusal::Uuid => number(b" refused ", 6),
-        BlockRefusal::BadField(f) => show_field(f),
-    }
 }
 
 fn show_refusal(r: WalkRefusal) {
@@ -556,29 +429,6 @@ fn tree_row(name: &[u8], g: Geometry, long: usize, root: u32, levels: u32, l: Le
     walk_row(name, g, &image[0..long], root, levels, l);
 }
 
-fn put(b: &mut [u8], at: usize, value: u8) {
-    if at < b.len() {
-        b[at] = value;
-    }
-}
-
-// The check put in again, where asked.
-fn seal(b: &mut [u8], again: bool) {
-    if !again {
-        return;
-    }
-    if b.len() < 56 {
-        return;
-    }
-    let crc = crc32c_with_zeroed_crc(b, 52);
-    put_le32(b, 52, crc);
-}
-
-fn damage(b: &mut [u8], at: usize, value: u8, again: bool) {
-    put(b, at, value);
-    seal(b, again);
-}
-
 fn damage_in(image: &mut [u8], block: u32, at: usize, value: u8, again: bool) {
     let a = (block as usize) * 512;
     let e = a + 512;
@@ -606,28 +456,6 @@ fn copied_row(name: &[u8], block: u32) {
     walk_row(name, usual(), &image, block, 3, plenty());
 }
 
-// A fresh block with no siblings, where the geometry is good and the header fits.
-fn fresh(g: Geometry, block: u32, level: u16, numrecs: u16, b: &mut [u8]) {
-    if !g.is_ok() {
-        return;
-    }
-    let version = g.version;
-    let header = header_len(version);
-    if b.len() < header {
-        return;
-    }
-    stamp(
-        g,
-        TreeKind::Rmap,
-        AgBlock(block),
-        level,
-        numrecs,
-        AgBlock(NULL_AGBLOCK),
-        AgBlock(NULL_AGBLOCK),
-        b,
-    );
-}
-
 fn put_pointer(b: &mut [u8], i: u32, block: u32) {
     let at = 456 + (i as usize) * 4;
     if b.len() < at + 4 {
@@ -652,7 +480,7 @@ fn fresh_in(g: Geometry, image: &mut [u8], block: u32, level: u16, numrecs: u16,
         return;
     }
     put_ten(&mut image[a..e], pointer);
-    fresh(g, block, level, numrecs, &mut image[a..e]);
+    fresh(g, TreeKind::Rmap, block, level, numrecs, &mut image[a..e]);
 }
 
 // A walk of 1 + 10 + 100 visits over three blocks: the root points ten times to a node, and that ten times to a leaf of one record.

@@ -1,10 +1,10 @@
--- `trees_rows::words` is safe and ends.
+-- `show::lines::words` is safe and ends.
 -- Assumes nothing.
 use Prim.Native.Nat.{_≤_, _-_}
 use lib.ListN.{length}
 use borrow.Author.Needs.{needs}
-use Rattle.trees_rows.proofs.words.Statement.{statement}
-use Rattle.trees_rows.proofs.words.Tie as tie
+use Rattle.show.proofs.lines.words.Statement.{statement}
+use Rattle.show.proofs.lines.words.Tie as tie
 
 abbrev Inv-loop : tie.InvT-loop
 Inv-loop b i₀ t3 t4 i = i ≤ length b

@@ -1,11 +1,11 @@
--- `trees_rows::fresh` asks what `stamp` requires before it calls it.
+-- `show::samples::between` asks what `stamp` requires before it calls it.
 -- Assumes nothing.
 use borrow.Author.Needs.{needs}
 use borrow.Author.Tests.{not-false}
 use mathlib.Core.Path.{_≡_, sym, _∙_}
 use native.Mathlib.Omega.{arith}
-use Rattle.trees_rows.proofs.fresh.Statement.{statement}
-use Rattle.trees_rows.proofs.fresh.Tie as tie
+use Rattle.show.proofs.samples.between.Statement.{statement}
+use Rattle.show.proofs.samples.between.Tie as tie
 
 is-ok-requires : tie.Need-is-ok-requires
 is-ok-requires c κs = search needs
@@ -29,8 +29,8 @@ same-length c = search needs
 returns-3 : tie.Need-returns-3
 returns-3 c = search needs
 
-pub fresh-spec : {M : Type 1} → statement M
-fresh-spec =
+pub between-spec : {M : Type 1} → statement M
+between-spec =
     tie.close
     (tie.spec
     is-ok-requires

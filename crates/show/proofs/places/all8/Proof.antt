@@ -1,10 +1,10 @@
--- `trees_rows::all64` is safe and ends.
+-- `show::places::all8` is safe and ends.
 -- Assumes nothing.
 use Prim.Native.Nat.{_≤_, _-_}
 use lib.ListN.{length}
 use borrow.Author.Needs.{needs}
-use Rattle.trees_rows.proofs.all64.Statement.{statement}
-use Rattle.trees_rows.proofs.all64.Tie as tie
+use Rattle.show.proofs.places.all8.Statement.{statement}
+use Rattle.show.proofs.places.all8.Tie as tie
 
 abbrev Inv-loop : tie.InvT-loop
 Inv-loop b value i₀ i = i ≤ length b
@@ -14,9 +14,6 @@ abbrev μ-loop : tie.MeasureT-loop
 
 loop-holds : tie.Need-loop-holds Inv-loop μ-loop
 loop-holds c = search needs
-
-mul-if1 : tie.Need-mul-if1 Inv-loop μ-loop
-mul-if1 c = search needs
 
 shared-slice-read-if1 : tie.Need-shared-slice-read-if1 Inv-loop μ-loop
 shared-slice-read-if1 c = search needs
@@ -36,14 +33,13 @@ loop-again c = search needs
 returns-2 : tie.Need-returns-2 Inv-loop μ-loop
 returns-2 c = search needs
 
-pub all64-spec : {M : Type 1} → statement M
-all64-spec =
+pub all8-spec : {M : Type 1} → statement M
+all8-spec =
     tie.close
     (tie.spec
     Inv-loop
     μ-loop
     loop-holds
-    mul-if1
     shared-slice-read-if1
     returns
     add-i

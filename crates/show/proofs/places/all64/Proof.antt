@@ -1,17 +1,16 @@
--- `replay::all_places` meets its contract.
+-- `show::places::all64` is safe and ends.
 -- Assumes nothing.
-use borrow.Author.Needs.{needs}
 use Prim.Native.Nat.{_≤_, _-_}
-use mathlib.Core.Path.{_≡_}
 use lib.ListN.{length}
-use Rattle.replay.proofs.all_places.Statement.{statement}
-use Rattle.replay.proofs.all_places.Tie as tie
+use borrow.Author.Needs.{needs}
+use Rattle.show.proofs.places.all64.Statement.{statement}
+use Rattle.show.proofs.places.all64.Tie as tie
 
 abbrev Inv-loop : tie.InvT-loop
-Inv-loop list v i₀ i = i ≤ length list
+Inv-loop b value i₀ i = i ≤ length b
 
 abbrev μ-loop : tie.MeasureT-loop
-μ-loop list v i₀ i = length list - i
+μ-loop b value i₀ i = length b - i
 
 loop-holds : tie.Need-loop-holds Inv-loop μ-loop
 loop-holds c = search needs
@@ -37,8 +36,8 @@ loop-again c = search needs
 returns-2 : tie.Need-returns-2 Inv-loop μ-loop
 returns-2 c = search needs
 
-pub all-places-spec : {M : Type 1} → statement M
-all-places-spec =
+pub all64-spec : {M : Type 1} → statement M
+all64-spec =
     tie.close
     (tie.spec
     Inv-loop

@@ -1,0 +1,4 @@
+// What the test programs print and compare: lines of text, memory that was lent, and blocks to check.
+pub mod lines;
+pub mod places;
+pub mod samples;

@@ -1,0 +1,68 @@
+// The text that the test programs write to standard output.
+ghost use mathlib.Core.Path.{_≡_};
+ghost use Rattle.codec.specs.ListRefusal.{listNumber};
+use blocks::check::BlockRefusal;
+use blocks::check::Field;
+use codec::check::ListRefusal;
+use codec::endian::be32;
+
+// Document 01's number of a refusal of a list.
+pub fn list_number(r: ListRefusal) -> u64
+    ensures { λ n. ⌜ n ≡ listNumber r ⌝ }
+{
+    match r {
+        ListRefusal::Length => 19,
+        ListRefusal::RmapOrder => 20,
+        ListRefusal::RefcountOrder => 21,
+    }
+}
+
+// A name, and a number in decimal.
+pub fn number(name: &[u8], n: u64) {
+    io::write_all(1, name);
+    io::print_decimal(1, n);
+}
+
+// The end of a line.
+pub fn newline() {
+    io::write_all(1, b"\n");
+}
+
+// Four bytes at a time, in hexadecimal, on one line.
+pub fn words(b: &[u8]) {
+    let mut i = 0;
+    while 4 <= b.len() - i {
+        io::write_all(1, b" ");
+        io::print_hex(1, be32(b, i) as u64, 8);
+        i += 4;
+    }
+    io::write_all(1, b"\n");
+}
+
+fn show_two(n: u64, expected: u64, found: u64) {
+    number(b" refused ", n);
+    number(b" expected ", expected);
+    number(b" found ", found);
+}
+
+fn show_field(f: Field) {
+    match f {
+        Field::Magic { expected, found } => show_two(4, expected, found),
+        Field::Crc { expected, found } => show_two(5, expected, found),
+        Field::Owner { expected, found } => show_two(7, expected, found),
+        Field::Address { expected, found } => show_two(8, expected, found),
+        Field::Level { expected, found } => show_two(9, expected, found),
+        Field::Records { expected, found } => show_two(10, expected, found),
+    }
+}
+
+// The number of a block's refusal and, where it has such numbers, what was expected and what was found.
+pub fn show_block_refusal(r: BlockRefusal) {
+    match r {
+        BlockRefusal::BadGeometry => number(b" refused ", 1),
+        BlockRefusal::Short => number(b" refused ", 2),
+        BlockRefusal::NoTree => number(b" refused ", 3),
+        BlockRefusal::Uuid => number(b" refused ", 6),
+        BlockRefusal::BadField(f) => show_field(f),
+    }
+}

@@ -1,0 +1,88 @@
+// The blocks that the test programs make and damage.
+use blocks::geometry::AgBlock;
+use blocks::geometry::Geometry;
+use blocks::geometry::NULL_AGBLOCK;
+use blocks::kind::TreeKind;
+use blocks::kind::header_len;
+use blocks::stamp::stamp;
+use codec::crc::crc32c_with_zeroed_crc;
+use codec::endian::put_le32;
+
+// The group 3 of a volume.
+pub fn geometry(version: u16, blocksize: u32, agblocks: u32) -> Geometry {
+    Geometry {
+        version,
+        blocksize,
+        agblocks,
+        agno: 3,
+        meta_uuid: *b"\x10\x11\x12\x13\x14\x15\x16\x17\x18\x19\x1A\x1B\x1C\x1D\x1E\x1F",
+    }
+}
+
+// A fresh block between two siblings, where the geometry is good and the header fits.
+pub fn between(
+    g: Geometry,
+    kind: TreeKind,
+    block: u32,
+    level: u16,
+    numrecs: u16,
+    left: u32,
+    right: u32,
+    b: &mut [u8],
+) {
+    if !g.is_ok() {
+        return;
+    }
+    let version = g.version;
+    let header = header_len(version);
+    if b.len() < header {
+        return;
+    }
+    stamp(
+        g,
+        kind,
+        AgBlock(block),
+        level,
+        numrecs,
+        AgBlock(left),
+        AgBlock(right),
+        b,
+    );
+}
+
+// The same with no siblings.
+pub fn fresh(g: Geometry, kind: TreeKind, block: u32, level: u16, numrecs: u16, b: &mut [u8]) {
+    between(
+        g,
+        kind,
+        block,
+        level,
+        numrecs,
+        NULL_AGBLOCK,
+        NULL_AGBLOCK,
+        b,
+    );
+}
+
+fn put(b: &mut [u8], at: usize, value: u8) {
+    if at < b.len() {
+        b[at] = value;
+    }
+}
+
+// The check put in again, where there is room for it.
+fn seal(b: &mut [u8]) {
+    if b.len() < 56 {
+        return;
+    }
+    let crc = crc32c_with_zeroed_crc(b, 52);
+    put_le32(b, 52, crc);
+}
+
+// A block damaged at one byte, its check put in again where asked.
+pub fn damage(b: &mut [u8], at: usize, value: u8, again: bool) {
+    put(b, at, value);
+    if again {
+        seal(b);
+    }
+}
