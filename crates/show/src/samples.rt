@@ -1,4 +1,7 @@
 // The blocks that the test programs make and damage.
+ghost use mathlib.Core.Path.{_≡_};
+ghost use lib.ListN.{set};
+ghost use Rattle.show.specs.Samples.{freshBetween, sealed, damaged};
 use blocks::geometry::AgBlock;
 use blocks::geometry::Geometry;
 use blocks::geometry::NULL_AGBLOCK;
@@ -9,7 +12,9 @@ use codec::crc::crc32c_with_zeroed_crc;
 use codec::endian::put_le32;
 
 // The group 3 of a volume.
-pub fn geometry(version: u16, blocksize: u32, agblocks: u32) -> Geometry {
+pub fn geometry(version: u16, blocksize: u32, agblocks: u32) -> Geometry
+    ensures { λ g. ⌜ (g .version ≡ version) × (g .blocksize ≡ blocksize) × (g .agblocks ≡ agblocks) × (g .agno ≡ 3) ⌝ }
+{
     Geometry {
         version,
         blocksize,
@@ -29,7 +34,9 @@ pub fn between(
     left: u32,
     right: u32,
     b: &mut [u8],
-) {
+)
+    ensures { λ _. ⌜ now (b .exit) ≡ freshBetween g kind block level numrecs left right (now (b .entry)) ⌝ }
+{
     if !g.is_ok() {
         return;
     }
@@ -51,7 +58,9 @@ pub fn between(
 }
 
 // The same with no siblings.
-pub fn fresh(g: Geometry, kind: TreeKind, block: u32, level: u16, numrecs: u16, b: &mut [u8]) {
+pub fn fresh(g: Geometry, kind: TreeKind, block: u32, level: u16, numrecs: u16, b: &mut [u8])
+    ensures { λ _. ⌜ now (b .exit) ≡ freshBetween g kind block level numrecs 4294967295 4294967295 (now (b .entry)) ⌝ }
+{
     between(
         g,
         kind,
@@ -64,14 +73,18 @@ pub fn fresh(g: Geometry, kind: TreeKind, block: u32, level: u16, numrecs: u16, 
     );
 }
 
-fn put(b: &mut [u8], at: usize, value: u8) {
+fn put(b: &mut [u8], at: usize, value: u8)
+    ensures { λ _. ⌜ now (b .exit) ≡ set (now (b .entry)) at value ⌝ }
+{
     if at < b.len() {
         b[at] = value;
     }
 }
 
 // The check put in again, where there is room for it.
-fn seal(b: &mut [u8]) {
+fn seal(b: &mut [u8])
+    ensures { λ _. ⌜ now (b .exit) ≡ sealed (now (b .entry)) ⌝ }
+{
     if b.len() < 56 {
         return;
     }
@@ -80,7 +93,9 @@ fn seal(b: &mut [u8]) {
 }
 
 // A block damaged at one byte, its check put in again where asked.
-pub fn damage(b: &mut [u8], at: usize, value: u8, again: bool) {
+pub fn damage(b: &mut [u8], at: usize, value: u8, again: bool)
+    ensures { λ _. ⌜ now (b .exit) ≡ damaged (now (b .entry)) at value again ⌝ }
+{
     put(b, at, value);
     if again {
         seal(b);

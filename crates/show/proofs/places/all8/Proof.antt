@@ -1,48 +1,21 @@
--- `show::places::all8` is safe and ends.
+-- `show::places::all8` meets its contract.
 -- Assumes nothing.
-use Prim.Native.Nat.{_≤_, _-_}
+use Prim.Native.Nat.{_-_}
 use lib.ListN.{length}
 use borrow.Author.Needs.{needs}
+use Rattle.show.proofs.Throughout.{Read, none, next, other, end}
 use Rattle.show.proofs.places.all8.Statement.{statement}
 use Rattle.show.proofs.places.all8.Tie as tie
 
 abbrev Inv-loop : tie.InvT-loop
-Inv-loop b value i₀ i = i ≤ length b
+Inv-loop b value i₀ i = Read b value i
 
 abbrev μ-loop : tie.MeasureT-loop
 μ-loop b value i₀ i = length b - i
 
-loop-holds : tie.Need-loop-holds Inv-loop μ-loop
-loop-holds c = search needs
-
-shared-slice-read-if1 : tie.Need-shared-slice-read-if1 Inv-loop μ-loop
-shared-slice-read-if1 c = search needs
-
-returns : tie.Need-returns Inv-loop μ-loop
-returns c = search needs
-
-add-i : tie.Need-add-i Inv-loop μ-loop
-add-i c = search needs
-
-loop-less : tie.Need-loop-less Inv-loop μ-loop
-loop-less c = search needs
-
-loop-again : tie.Need-loop-again Inv-loop μ-loop
-loop-again c = search needs
-
-returns-2 : tie.Need-returns-2 Inv-loop μ-loop
-returns-2 c = search needs
-
 pub all8-spec : {M : Type 1} → statement M
 all8-spec =
-    tie.close
-    (tie.spec
-    Inv-loop
-    μ-loop
-    loop-holds
-    shared-slice-read-if1
-    returns
-    add-i
-    loop-less
-    loop-again
-    returns-2)
+    tie.close (tie.spec Inv-loop μ-loop (λ c. none) (λ c. search needs)
+    (λ c. other (c .before .before .before .loop .inv) (c .before .before .loop-test .taken) (c .if1 .taken)) (λ c. search needs) (λ c. search needs)
+    (λ c. next (c .before .before .before .loop .inv) (c .before .before .loop-test .taken) (c .if1 .left))
+    (λ c. end (c .before .loop .inv) (c .loop-test .left)))

@@ -1,33 +1,50 @@
--- `show::samples::between` asks what `stamp` requires before it calls it.
+-- `show::samples::between` meets its contract, and asks what `stamp` requires before it calls it.
 -- Assumes nothing.
+use Prim.Native.Nat.{_<_, _≤_}
 use borrow.Author.Needs.{needs}
-use borrow.Author.Tests.{not-false}
+use borrow.Author.Tests.{not-true, not-false, le-leb, lt-leb}
 use mathlib.Core.Path.{_≡_, sym, _∙_}
+use mathlib.Core.Bool.{true}
 use native.Mathlib.Omega.{arith}
+use lib.ListN.{length}
+use denote.Ref.{now}
+use Rattle.blocks.specs.Geometry.{geometryOk}
+use Rattle.blocks.specs.Tree.{headerLen}
 use Rattle.show.proofs.samples.between.Statement.{statement}
 use Rattle.show.proofs.samples.between.Tie as tie
+
+-- past the first test the geometry is good
+good : (c : tie.Else1) → geometryOk (c .before .before .before .args .g) ≡ true
+good c = sym (c .before .is-ok .ensures) ∙ not-false _ (c .if1 .left)
 
 is-ok-requires : tie.Need-is-ok-requires
 is-ok-requires c κs = search needs
 
 returns : tie.Need-returns
-returns c = search needs
+returns c = rw (sym (c .before .is-ok .ensures) ∙ not-true _ (c .if1 .taken))
 
 header-len-requires : tie.Need-header-len-requires
 header-len-requires c κs = search needs
 
 returns-2 : tie.Need-returns-2
-returns-2 c = search needs
+returns-2 c =
+    let a = c .before .before .before .before .before .args in
+    let short : length (now (a .b)) < headerLen (a .g .version) = omega (arith, c .before .header-len .ensures) in
+    rw (good (c .before .before), lt-leb _ _ short)
 
 stamp-requires : tie.Need-stamp-requires
 stamp-requires c κs =
-    (sym (c .before .before .before .before .is-ok .ensures) ∙ not-false _ (c .before .before .before .if1 .left), omega (arith, c .before .before .header-len .ensures))
+    (good (c .before .before .before), omega (arith, c .before .before .header-len .ensures))
 
 same-length : tie.Need-same-length
 same-length c = search needs
 
 returns-3 : tie.Need-returns-3
-returns-3 c = search needs
+returns-3 c =
+    let t = c .before .before .before .before in
+    let a = t .before .before .before .before .before .args in
+    let fits : headerLen (a .g .version) ≤ length (now (a .b)) = omega (arith, t .before .header-len .ensures) in
+    rw (good (t .before .before), le-leb _ _ fits) (c .before .before .stamp .ensures)
 
 pub between-spec : {M : Type 1} → statement M
 between-spec =

@@ -1,0 +1,22 @@
+-- `show::samples::put` meets its contract.
+-- Assumes nothing.
+use mathlib.Core.Path.{sym}
+use lib.Seq.{set-out}
+use borrow.Author.Needs.{needs}
+use Rattle.show.proofs.samples.put.Statement.{statement}
+use Rattle.show.proofs.samples.put.Tie as tie
+
+slice-write-b : tie.Need-slice-write-b
+slice-write-b c = search needs
+
+same-length : tie.Need-same-length
+same-length c = search needs
+
+returns : tie.Need-returns
+returns c = search needs
+
+returns-2 : tie.Need-returns-2
+returns-2 c = sym (set-out _ _ _ (c .if1 .left))
+
+pub put-spec : {M : Type 1} → statement M
+put-spec = tie.close (tie.spec slice-write-b same-length returns returns-2)
