@@ -73,6 +73,13 @@ uint32_t kf_let_go(const uint8_t *map, size_t map_len, const uint8_t *counts, si
                    uint8_t *new_map, size_t new_map_len, uint8_t *new_counts, size_t new_counts_len,
                    uint8_t *free_extents, size_t free_extents_len, uint64_t said[4]);
 
+/* A take of blocks that others hold: the mapping goes into the reverse map, and the owners of its blocks are raised (19, 20, then 19, 21, then
+ * 22, 23, 25, 27, 28, 26).
+ * said: bytes of the new reverse map and of the new counts, 0, 0; refused: zeros. */
+uint32_t kf_take_held(const uint8_t *map, size_t map_len, const uint8_t *counts, size_t counts_len,
+                      uint32_t startblock, uint32_t blockcount, uint64_t owner, uint64_t offset,
+                      uint8_t *new_map, size_t new_map_len, uint8_t *new_counts, size_t new_counts_len, uint64_t said[4]);
+
 #ifdef __cplusplus
 }
 #endif

@@ -45,6 +45,8 @@
 //! | 23, 24 | is nothing in the way? does a record contain the extent? |
 //! | 25 | is it clear of staging records? |
 //! | 26 | do the new lists fit what was lent? |
+//! | 27 | in a take of held blocks, is every block held? |
+//! | 28 | in such a take, are fewer than 4,294,967,295 owners counted over each block? |
 
 pub mod raw;
 
@@ -664,4 +666,58 @@ pub fn let_go(map: &[u8], counts: &[u8], x: &Rmap, new: NewLists) -> Result<LetG
         free: said[2] as usize,
     };
     answer(n, &said, gone)
+}
+
+/// The lengths in bytes of what a take of held blocks wrote.
+#[derive(Debug, Clone, Copy, PartialEq, Eq)]
+pub struct TakenHeld {
+    pub map: usize,
+    pub counts: usize,
+}
+
+/// Take an extent whose blocks are all held: `x` goes into the reverse map
+/// beside the mappings that are there, and the counts over it are raised.
+/// Questions 19 and 20, then 19 and 21, then 22, 23, 25, 27, 28 and 26.
+///
+/// ```
+/// use kf::{take_held, Rmap};
+/// let a = Rmap { startblock: 4, blockcount: 2, owner: 7, offset: 0 };
+/// let b = Rmap { owner: 9, ..a };
+/// let (mut map, mut counts) = ([0; 48], [0; 12]);
+/// let taken = take_held(&a.bytes(), &[], &b, &mut map, &mut counts).unwrap();
+/// assert_eq!((taken.map, taken.counts), (48, 12));
+/// assert_eq!(counts, [0, 0, 0, 4, 0, 0, 0, 2, 0, 0, 0, 2]);
+/// ```
+pub fn take_held(
+    map: &[u8],
+    counts: &[u8],
+    x: &Rmap,
+    new_map: &mut [u8],
+    new_counts: &mut [u8],
+) -> Result<TakenHeld, Refusal> {
+    let mut said = [0; 4];
+    // SAFETY: two slices that the call reads, two that it writes, which do not
+    // overlap, and four numbers that it writes.
+    let n = unsafe {
+        raw::kf_take_held(
+            map.as_ptr(),
+            map.len(),
+            counts.as_ptr(),
+            counts.len(),
+            x.startblock,
+            x.blockcount,
+            x.owner as u64,
+            x.offset,
+            new_map.as_mut_ptr(),
+            new_map.len(),
+            new_counts.as_mut_ptr(),
+            new_counts.len(),
+            &mut said,
+        )
+    };
+    let taken = TakenHeld {
+        map: said[0] as usize,
+        counts: said[1] as usize,
+    };
+    answer(n, &said, taken)
 }

@@ -132,4 +132,19 @@ extern "C" {
         free_len: usize,
         said: *mut [u64; 4],
     ) -> u32;
+    pub fn kf_take_held(
+        map: *const u8,
+        map_len: usize,
+        counts: *const u8,
+        counts_len: usize,
+        startblock: u32,
+        blockcount: u32,
+        owner: u64,
+        offset: u64,
+        new_map: *mut u8,
+        new_map_len: usize,
+        new_counts: *mut u8,
+        new_counts_len: usize,
+        said: *mut [u64; 4],
+    ) -> u32;
 }

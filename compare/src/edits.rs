@@ -70,7 +70,7 @@ fn one_edit(e: Edit, old: &[u8], x: Rmap, room: usize, tally: &mut Tally) {
 }
 
 /// Rooms around a length: just enough, one short, none, more.
-fn rooms(r: &mut Random, exact: usize) -> usize {
+pub fn rooms(r: &mut Random, exact: usize) -> usize {
     match r.below(8) {
         0..=2 => exact,
         3 => exact.saturating_sub(1),

@@ -239,3 +239,29 @@ pub fn let_go(
         )
     })
 }
+
+pub fn take_held(
+    map: &[u8],
+    counts: &[u8],
+    x: Rmap,
+    new_map: &mut [u8],
+    new_counts: &mut [u8],
+) -> Said {
+    said(|s| unsafe {
+        raw::kf_take_held(
+            map.as_ptr(),
+            map.len(),
+            counts.as_ptr(),
+            counts.len(),
+            x.startblock,
+            x.blockcount,
+            x.owner as u64,
+            x.offset,
+            new_map.as_mut_ptr(),
+            new_map.len(),
+            new_counts.as_mut_ptr(),
+            new_counts.len(),
+            s,
+        )
+    })
+}

@@ -9,6 +9,7 @@
 mod bench;
 mod blocks;
 mod edits;
+mod held;
 mod lent;
 mod library;
 mod lists;
@@ -21,7 +22,7 @@ use oracle::sample::Random;
 use tally::Tally;
 
 /// What there is to compare, and how.
-const WHAT: [(&str, fn(&mut Random, u64, &mut Tally)); 9] = [
+const WHAT: [(&str, fn(&mut Random, u64, &mut Tally)); 10] = [
     ("crc", blocks::crcs),
     ("lists", edits::accepted_lists),
     ("blocks", blocks::blocks),
@@ -31,6 +32,7 @@ const WHAT: [(&str, fn(&mut Random, u64, &mut Tally)); 9] = [
     ("edits", edits::edits),
     ("releases", edits::releases),
     ("lets_go", edits::lets_go),
+    ("takes_held", held::takes),
 ];
 
 fn main() {

@@ -16,6 +16,7 @@ use Rattle.blocks.specs.declared.check.Header.{Header}
 use Rattle.trees.specs.Plan.{sum}
 use Rattle.lists.specs.declared.Lengths.{Lengths}
 use Rattle.groups.specs.declared.Sizes.{Sizes}
+use Rattle.groups.specs.declared.BothSizes.{BothSizes}
 
 -- ---- what is given
 
@@ -77,3 +78,7 @@ releaseFigures n = n .counts ∷ n .free ∷ 0 ∷ 0 ∷ []
 -- of the whole letting go: the bytes of the reverse map, of the counts and of the free extents
 abbrev pub goneFigures : Sizes → List ℕ
 goneFigures n = n .map ∷ n .counts ∷ n .free ∷ 0 ∷ []
+
+-- of a take of held blocks: the bytes of the reverse map and of the counts
+abbrev pub bothFigures : BothSizes → List ℕ
+bothFigures n = n .map ∷ n .counts ∷ 0 ∷ 0 ∷ []

@@ -10,20 +10,22 @@ ghost use Rattle.trees.specs.PlanAnswer.{PlanIs};
 ghost use Rattle.trees.specs.BuildAnswer.{builtOutcome};
 ghost use Rattle.trees.specs.WalkAnswer.{walkedReport};
 ghost use Rattle.groups.specs.Answer.{letGoneOutcome};
-ghost use Rattle.exports.specs.Interface.{numberOf, Says, headerFigures, planFigures, buildFigures, lengthFigures, releaseFigures, goneFigures};
+ghost use Rattle.groups.specs.TakeHeldAnswer.{takenHeldOutcome};
+ghost use Rattle.exports.specs.Interface.{numberOf, Says, headerFigures, planFigures, buildFigures, lengthFigures, releaseFigures, goneFigures, bothFigures};
 ghost use Rattle.exports.specs.WalkFigures.{Reports};
 use crate::refusals::block_refusal_figures;
 use crate::refusals::block_refusal_number;
 use crate::refusals::build_refusal_number;
-use crate::refusals::edit_refusal_number;
 use crate::refusals::list_refusal_number;
 use crate::refusals::walk_refusal_figures;
 use crate::refusals::walk_refusal_number;
 use blocks::check::Checked;
 use codec::check::ListChecked;
 use groups::LetGone;
+use groups::TakenHeld;
 use lists::Edited;
 use lists::Released;
+use lists::edit_number;
 use trees::build::Built;
 use trees::plan::PlanAnswer;
 use trees::plan::Planned;
@@ -72,7 +74,7 @@ pub(crate) fn edited_answer(edited: Edited) -> Answer
             figures: [n as u64, 0, 0, 0],
         },
         Edited::Refused(r) => Answer {
-            number: edit_refusal_number(r),
+            number: edit_number(r),
             figures: [0, 0, 0, 0],
         },
     }
@@ -87,7 +89,7 @@ pub(crate) fn released_answer(released: Released) -> Answer
             figures: [n.counts as u64, n.free as u64, 0, 0],
         },
         Released::Refused(r) => Answer {
-            number: edit_refusal_number(r),
+            number: edit_number(r),
             figures: [0, 0, 0, 0],
         },
     }
@@ -158,7 +160,22 @@ pub(crate) fn let_gone_answer(gone: LetGone) -> Answer
             figures: [n.map as u64, n.counts as u64, n.free as u64, 0],
         },
         LetGone::Refused(r) => Answer {
-            number: edit_refusal_number(r),
+            number: edit_number(r),
+            figures: [0, 0, 0, 0],
+        },
+    }
+}
+
+pub(crate) fn taken_held_answer(taken: TakenHeld) -> Answer
+    ensures { λ a. ⌜ Says bothFigures (takenHeldOutcome taken) (a .number) (a .figures) ⌝ }
+{
+    match taken {
+        TakenHeld::Done(n) => Answer {
+            number: 0,
+            figures: [n.map as u64, n.counts as u64, 0, 0],
+        },
+        TakenHeld::Refused(r) => Answer {
+            number: edit_number(r),
             figures: [0, 0, 0, 0],
         },
     }

@@ -7,12 +7,16 @@ ghost use Rattle.lists.specs.Edits.{insertOutcome, insertSharedOutcome, removeO
 ghost use Rattle.lists.specs.Answer.{lengthOf, lengthsOf};
 ghost use Rattle.groups.specs.LetGo.{letGoOutcome};
 ghost use Rattle.groups.specs.Answer.{sizesOf, mapOf, countsOf, freeOf};
-ghost use Rattle.exports.specs.Interface.{extentOf, Says, lengthFigures, releaseFigures, goneFigures};
+ghost use Rattle.groups.specs.TakeHeld.{takeHeldOutcome};
+ghost use Rattle.groups.specs.TakeHeldAnswer.{bothSizesOf, heldMapOf, heldCountsOf};
+ghost use Rattle.exports.specs.Interface.{extentOf, Says, lengthFigures, releaseFigures, goneFigures, bothFigures};
 use crate::answers::edited_answer;
 use crate::answers::let_gone_answer;
 use crate::answers::released_answer;
+use crate::answers::taken_held_answer;
 use crate::given::extent;
 use groups::let_go::let_go;
+use groups::take_held::take_held;
 use lists::refcounts::release;
 use lists::rmap_edits::insert;
 use lists::rmap_edits::insert_shared;
@@ -123,6 +127,31 @@ pub extern "C" fn kf_let_go(
 {
     let x = extent(startblock, blockcount, owner, offset);
     let answer = let_gone_answer(let_go(map, counts, x, new_map, new_counts, free));
+    let figures = answer.figures;
+    *said = figures;
+    answer.number
+}
+
+// A take of blocks that others hold: questions 19 and 20, 19 and 21, then 22, 23, 25, 27, 28 and 26. The figures are the bytes of the new reverse
+// map and of the new counts.
+#[no_mangle]
+pub extern "C" fn kf_take_held(
+    map: &[u8],
+    counts: &[u8],
+    startblock: u32,
+    blockcount: u32,
+    owner: u64,
+    offset: u64,
+    new_map: &mut [u8],
+    new_counts: &mut [u8],
+    said: &mut [u64; 4],
+) -> u32
+    ensures { λ r. ⌜ Says bothFigures (bothSizesOf (takeHeldOutcome (now (map .entry)) (now (counts .entry)) (extentOf startblock blockcount owner offset) (length (now («new_map» .entry))) (length (now («new_counts» .entry))))) r (now (said .exit)) ⌝ }
+    ensures { λ _. ⌜ now («new_map» .exit) ≡ written rmaps (now («new_map» .entry)) (heldMapOf (takeHeldOutcome (now (map .entry)) (now (counts .entry)) (extentOf startblock blockcount owner offset) (length (now («new_map» .entry))) (length (now («new_counts» .entry))))) ⌝ }
+    ensures { λ _. ⌜ now («new_counts» .exit) ≡ written refcounts (now («new_counts» .entry)) (heldCountsOf (takeHeldOutcome (now (map .entry)) (now (counts .entry)) (extentOf startblock blockcount owner offset) (length (now («new_map» .entry))) (length (now («new_counts» .entry))))) ⌝ }
+{
+    let x = extent(startblock, blockcount, owner, offset);
+    let answer = taken_held_answer(take_held(map, counts, x, new_map, new_counts));
     let figures = answer.figures;
     *said = figures;
     answer.number

@@ -2,14 +2,12 @@
 ghost use mathlib.Core.Path.{_≡_};
 ghost use Rattle.codec.specs.ListRefusal.{listNumber};
 ghost use Rattle.blocks.specs.Refusal.{fieldNumber, refusalNumber, fieldValues, refusalValues};
-ghost use Rattle.lists.specs.Answer.{editNumber};
 ghost use Rattle.trees.specs.BuildAnswer.{buildNumber};
 ghost use Rattle.trees.specs.WalkAnswer.{walkNumber, walkValues};
 ghost use Rattle.exports.specs.Interface.{valueFigures};
 use blocks::check::BlockRefusal;
 use blocks::check::Field;
 use codec::check::ListRefusal;
-use lists::EditRefusal;
 use trees::build::BuildRefusal;
 use trees::walk::WalkRefusal;
 
@@ -97,19 +95,6 @@ pub(crate) fn walk_refusal_figures(r: WalkRefusal, third: u64) -> [u64; 4]
         WalkRefusal::Outside => [0, 0, third, 0],
         WalkRefusal::Block(b) => block_refusal_figures(b, third),
         WalkRefusal::Full => [0, 0, third, 0],
-    }
-}
-
-pub(crate) fn edit_refusal_number(r: EditRefusal) -> u32
-    ensures { λ n. ⌜ n ≡ editNumber r ⌝ }
-{
-    match r {
-        EditRefusal::List(l) => list_refusal_number(l),
-        EditRefusal::Extent => 22,
-        EditRefusal::Overlap => 23,
-        EditRefusal::Missing => 24,
-        EditRefusal::Staging => 25,
-        EditRefusal::Room => 26,
     }
 }
 

@@ -17,6 +17,7 @@ use Rattle.lists.specs.Release.{owners, stop, unshared}
 use Rattle.lists.proofs.Cases.{split, tests, conj, not-false, within-in, within-right, over-facts, within-over, within-not}
 use Rattle.lists.specs.Passes.{fewer}
 use Rattle.lists.proofs.Counts.{From, Accepted, owners-left, kind-owners}
+use Rattle.lists.proofs.Raising.{another}
 use Rattle.lists.proofs.Runs.{runs-same}
 use Rattle.groups.specs.History.{shared, Agree}
 
@@ -123,6 +124,18 @@ several-take s c b n h =
     (λ e. let w : within s c 1 b ≡ 1 = within-over s c 1 b e in let z : n ≡ 0 = h (omega arith) in rw (w, z) refl)
     (λ e. rw (within-not s c 1 b e, zero-add) refl)
 
+-- one record more over a held block, where a raise adds an owner
+several-more : (s c b n : ℕ) → (0 < within s c 1 b → 0 < n) → cond (over s c b) (another (several n)) (several n) ≡ several (within s c 1 b + n)
+unfolding another several
+several-more s c b n h =
+    split (over s c b)
+    (λ e. let w : within s c 1 b ≡ 1 = within-over s c 1 b e in
+    let p : 0 < n = h (omega arith) in
+    split (ltb n 2)
+    (λ f. let q : n ≡ 1 = omega tests in rw (w, e, q) refl)
+    (λ f. rw (w, e, f, ne-eqb n 0 (omega arith), le-ltb (1 + n) 2 (omega tests)) (omega arith)))
+    (λ e. rw (within-not s c 1 b e, e, zero-add) refl)
+
 -- ---- the lists after it
 
 module _ (m n : List Rmap) (c : List Refcount) (start count : ℕ) (ok : Accepted c) (a : Agree m c) where
@@ -139,6 +152,16 @@ module _ (m n : List Rmap) (c : List Refcount) (start count : ℕ) (ok : Accepte
   pub agree-take : ((b : ℕ) → holders n b ≡ within start count 1 b + holders m b) → ((b : ℕ) → 0 < within start count 1 b → holders m b ≡ 0) → Agree n c
   agree-take k f =
       equation-agree n c ok (λ b. rw (k b) (agree-equation m c ok a b ∙ sym (several-take start count b (holders m b) (f b))))
+
+  -- c is raised to d, and the map has one record more over blocks that are all held
+  pub agree-raise : (d : List Refcount) → Accepted d → ((b : ℕ) → owners d b ≡ cond (over start count b) (another (owners c b)) (owners c b))
+      → ((b : ℕ) → holders n b ≡ within start count 1 b + holders m b) → ((b : ℕ) → 0 < within start count 1 b → 0 < holders m b) → Agree n d
+  agree-raise d h q k f =
+      equation-agree n d h
+      (λ b. q b
+      ∙ ap (λ (o : ℕ). cond (over start count b) (another o) o) (agree-equation m c ok a b)
+      ∙ several-more start count b (holders m b) (f b)
+      ∙ ap several (sym (k b)))
 
   none-several : (k : ℕ) → eqb (several (k + 1)) 0 ≡ eqb k 0
   unfolding several

@@ -20,14 +20,14 @@ use Rattle.lists.specs.Release as release
 use Rattle.lists.specs.Edits.{insertOutcome}
 use Rattle.lists.proofs.Cases.{split, within-not, within-left, within-right, over-facts}
 use Rattle.groups.specs.LetGo.{letGoOutcome}
-use Rattle.groups.specs.History.{shared, Lists, Accepted, Agreeing, held, Change, take, letGo, extent, step, after, covered, taken, run, takes, letsGo, Held, Start}
+use Rattle.groups.specs.History.{shared, Lists, Accepted, Agreeing, held, Change, take, letGo, extent, step, after, covered, firstTaken, taken, run, takes, letsGo, Held, Start}
 use Rattle.groups.proofs.History.{kept-step}
 
 -- ---- change by change
 
 abbrev pub Meets : Lists → List Change → Type 0
 Meets σ [] = Unit {0}
-Meets σ (c ∷ cs) = RmapFits (extent c) × ((b : ℕ) → 0 < taken c (step σ c) b → held σ b ≡ 0) × Meets (after σ (step σ c)) cs
+Meets σ (c ∷ cs) = RmapFits (extent c) × ((b : ℕ) → 0 < firstTaken c (step σ c) b → held σ b ≡ 0) × Meets (after σ (step σ c)) cs
 
 meets-extents : (σ : Lists) (cs : List Change) → Meets σ cs → (before : List Change) (d : Change) (rest : List Change) → cs ≡ before ++ (d ∷ rest)
     → RmapFits (extent d)
@@ -37,17 +37,17 @@ meets-extents σ (c ∷ cs) m [] d rest e = let q : c ≡ d = cc in rw (← q) (
 meets-extents σ (c ∷ cs) m (p ∷ before) d rest e = meets-extents (after σ (step σ c)) cs (m .2) before d rest cc
 
 meets-fresh : (σ : Lists) (cs : List Change) → Accepted σ → Agreeing σ → Meets σ cs → (before : List Change) (d : Change) (rest : List Change)
-    → cs ≡ before ++ (d ∷ rest) → (b : ℕ) → 0 < taken d (step (run σ before) d) b → Held σ before b → ⊥
+    → cs ≡ before ++ (d ∷ rest) → (b : ℕ) → 0 < firstTaken d (step (run σ before) d) b → Held σ before b → ⊥
 unfolding run takes letsGo
 meets-fresh σ [] h a m [] d rest e b u v = let z : _≡_ {A = ℕ} 0 1 = cc in omega arith
 meets-fresh σ [] h a m (p ∷ before) d rest e b u v = let z : _≡_ {A = ℕ} 0 1 = cc in omega arith
 meets-fresh σ (c ∷ cs) h a m [] d rest e b u v =
-    let q : d ≡ c = cc in let w : 0 < taken c (step σ c) b = rw q at u in omega (arith, m .1 b w)
+    let q : d ≡ c = cc in let w : 0 < firstTaken c (step σ c) b = rw q at u in omega (arith, m .1 b w)
 meets-fresh σ (c ∷ cs) h a m (p ∷ before) d rest e b u v =
     let q : p ≡ c = cc in
     let t : cs ≡ before ++ (d ∷ rest) = cc in
     let k = kept-step σ c h a (m .0) (m .1) in
-    let w : 0 < taken d (step (run (after σ (step σ c)) before) d) b = rw q at u in
+    let w : 0 < firstTaken d (step (run (after σ (step σ c)) before) d) b = rw q at u in
     let y : Held σ (c ∷ before) b = rw q at v in
     meets-fresh (after σ (step σ c)) cs (k .accepted) (k .agree) (m .2) before d rest t b w (omega (arith, k .sum b))
 
@@ -101,7 +101,7 @@ free-then b h =
     (λ e. omega (arith, within-not 1 2 1 b e))
 
 changes-meet : Meets none-held changes
-unfolding none-held changes holders taken covered after step insertOutcome letGoOutcome bytes.beOf bytes.beBytes records.fieldsOf records.fieldBytes records.firstRecords records.recordsOf records.bytesOf accepted.whole accepted.inOrder rmap.reserved rmap.mapping rmap.exempt rmap.good rmap.keyOffset rmap.before rmap.follows refcount.staging refcount.good refcount.follows edits.first edits.isSome edits.replace edits.place edits.continues edits.clearAfter edits.clear edits.attach edits.insertAfter edits.insert edits.contains edits.linesUp edits.chosen edits.front edits.later edits.placeLater edits.cutOut release.owners release.clear release.lowerAll release.joinAll blocks.grow blocks.runs
+unfolding none-held changes holders firstTaken taken covered after step insertOutcome letGoOutcome bytes.beOf bytes.beBytes records.fieldsOf records.fieldBytes records.firstRecords records.recordsOf records.bytesOf accepted.whole accepted.inOrder rmap.reserved rmap.mapping rmap.exempt rmap.good rmap.keyOffset rmap.before rmap.follows refcount.staging refcount.good refcount.follows edits.first edits.isSome edits.replace edits.place edits.continues edits.clearAfter edits.clear edits.attach edits.insertAfter edits.insert edits.contains edits.linesUp edits.chosen edits.front edits.later edits.placeLater edits.cutOut release.owners release.clear release.lowerAll release.joinAll blocks.grow blocks.runs
 changes-meet = (fit 0 4 7 0 (omega arith), λ b h. refl, (fit 1 2 7 1 (omega arith), λ b h. absurd (omega arith), (fit 1 2 7 1 (omega arith), λ b h. absurd (omega arith), (fit 1 2 9 0 (omega arith), free-then, tt))))
   where
     fit : (s c owner at : ℕ) → s + (c + (owner + at)) < 100 → RmapFits (record-of s c owner at)

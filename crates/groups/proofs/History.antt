@@ -19,9 +19,11 @@ use Rattle.lists.proofs.Cases.{split, tests}
 use Rattle.lists.proofs.Counts as C
 use Rattle.lists.proofs.Laws.{Taken, insert-law, insertShared-law}
 use Rattle.groups.specs.LetGo.{Gone, letGoOutcome}
-use Rattle.groups.specs.History.{Lists, Accepted, Agreeing, held, Change, take, takeShared, letGo, extent, Left, took, went, step, after, covered, taken, gone, run, takes, letsGo, At, Start, EveryHistory}
-use Rattle.groups.proofs.Agreement.{agree-letGo, agree-take, unshared-unheld}
+use Rattle.groups.specs.TakeHeld.{Both, takeHeldOutcome}
+use Rattle.groups.specs.History.{Lists, Accepted, Agreeing, held, Change, take, takeShared, takeHeld, letGo, extent, Left, took, tookHeld, went, step, after, covered, firstTaken, taken, gone, run, takes, letsGo, At, Start, EveryHistory}
+use Rattle.groups.proofs.Agreement.{agree-letGo, agree-take, agree-raise, unshared-unheld}
 use Rattle.groups.proofs.Letting.{letGo-law}
+use Rattle.groups.proofs.TakingAll.{takeHeld-law}
 use Rattle.groups.proofs.Returning.{returned}
 
 -- ---- from lists to lists
@@ -69,6 +71,36 @@ kept-take σ x m h a t f =
           rw q
           (agree-take (recordsOf rmaps (σ .map)) m (recordsOf refcounts (σ .counts)) (x .startblock) (x .blockcount) (counts-facts σ h) a (t .held) f);
       sum = λ b. rw q (omega (arith, t .held b));
+    }
+
+-- ---- a take of held blocks
+
+kept-takeHeld : (σ : Lists) (x : Rmap) (room countsRoom : ℕ) (g : Both) → Accepted σ → Agreeing σ → RmapFits x
+    → takeHeldOutcome (σ .map) (σ .counts) x room countsRoom ≡ done g
+    → Kept σ (within (x .startblock) (x .blockcount) 1) (λ b. 0) (tookHeld g .lists)
+kept-takeHeld σ x room countsRoom g h a f e =
+    let m : List Rmap = recordsOf rmaps (σ .map) in
+    let c : List Refcount = recordsOf refcounts (σ .counts) in
+    let w = takeHeld-law (σ .map) (σ .counts) x room countsRoom g (h .map-bytes) (h .counts-bytes) f e in
+    let p = w .map-after in
+    let l = w .counts-after in
+    let q : recordsOf rmaps (bytesOf rmaps (g .map)) ≡ g .map = map-back (g .map) (p .stored) in
+    let r : recordsOf refcounts (bytesOf refcounts (g .counts)) ≡ g .counts = counts-back (g .counts) (l .stored) in
+    record {
+      accepted =
+          record {
+            map-bytes = isBytes-bytesOf rmaps rmaps-lawful (g .map);
+            counts-bytes = isBytes-bytesOf refcounts refcounts-lawful (g .counts);
+            map-whole = whole-bytesOf rmaps rmaps-lawful (g .map);
+            map-order = rw q (p .accepted);
+            counts-whole = whole-bytesOf refcounts refcounts-lawful (g .counts);
+            counts-order = rw r (l .accepted);
+          };
+      agree =
+          rw (q, r)
+          (agree-raise m (g .map) c (x .startblock) (x .blockcount) (counts-facts σ h) a (g .counts)
+          (C.accepted-facts (g .counts) (l .stored) (l .accepted)) (l .owned) (p .held) (w .all-held));
+      sum = λ b. rw q (omega (arith, p .held b));
     }
 
 -- ---- a let go
@@ -124,6 +156,13 @@ unfolding covered after
 took-kept σ x (done m) h a t f = kept-take σ x m h a (t m refl) f
 took-kept σ x (refused n v) h a t f = kept-same σ h a
 
+held-kept : (σ : Lists) (x : Rmap) (room countsRoom : ℕ) (o : Outcome Both) → Accepted σ → Agreeing σ → RmapFits x
+    → takeHeldOutcome (σ .map) (σ .counts) x room countsRoom ≡ o
+    → Kept σ (covered (mapOutcome tookHeld o) x) (λ b. 0) (after σ (mapOutcome tookHeld o))
+unfolding covered after
+held-kept σ x room countsRoom (done g) h a f e = kept-takeHeld σ x room countsRoom g h a f e
+held-kept σ x room countsRoom (refused n v) h a f e = kept-same σ h a
+
 went-kept : (σ : Lists) (x : Rmap) (room countsRoom freeRoom : ℕ) (o : Outcome Gone) → Accepted σ → Agreeing σ
     → letGoOutcome (σ .map) (σ .counts) x room countsRoom freeRoom ≡ o
     → Kept σ (λ b. 0) (covered (mapOutcome went o) x) (after σ (mapOutcome went o))
@@ -131,13 +170,15 @@ unfolding covered after
 went-kept σ x room countsRoom freeRoom (done g) h a e = kept-letGo σ x room countsRoom freeRoom g h a e .0
 went-kept σ x room countsRoom freeRoom (refused n v) h a e = kept-same σ h a
 
-pub kept-step : (σ : Lists) (c : Change) → Accepted σ → Agreeing σ → RmapFits (extent c) → ((b : ℕ) → 0 < taken c (step σ c) b → held σ b ≡ 0)
+pub kept-step : (σ : Lists) (c : Change) → Accepted σ → Agreeing σ → RmapFits (extent c) → ((b : ℕ) → 0 < firstTaken c (step σ c) b → held σ b ≡ 0)
     → Kept σ (taken c (step σ c)) (gone c (step σ c)) (after σ (step σ c))
-unfolding step taken gone
+unfolding step firstTaken taken gone
 kept-step σ (take x room) h a w f =
     took-kept σ x (insertOutcome (σ .map) x room) h a (λ m e. insert-law (σ .map) x room m (h .map-bytes) w e) f
 kept-step σ (takeShared x room) h a w f =
     took-kept σ x (insertSharedOutcome (σ .map) x room) h a (λ m e. insertShared-law (σ .map) x room m (h .map-bytes) w e) f
+kept-step σ (takeHeld x room countsRoom) h a w f =
+    held-kept σ x room countsRoom (takeHeldOutcome (σ .map) (σ .counts) x room countsRoom) h a w refl
 kept-step σ (letGo x room countsRoom freeRoom) h a w f =
     went-kept σ x room countsRoom freeRoom (letGoOutcome (σ .map) (σ .counts) x room countsRoom freeRoom) h a refl
 
@@ -174,7 +215,7 @@ start-part σ cs before c s h =
     }
 
 -- the first change meets no held block
-fresh-first : (σ : Lists) (c : Change) (cs : List Change) → Start σ (c ∷ cs) → (b : ℕ) → 0 < taken c (step σ c) b → held σ b ≡ 0
+fresh-first : (σ : Lists) (c : Change) (cs : List Change) → Start σ (c ∷ cs) → (b : ℕ) → 0 < firstTaken c (step σ c) b → held σ b ≡ 0
 unfolding run takes letsGo
 fresh-first σ c cs s b u =
     split (ltb 0 (held σ b))

@@ -31,6 +31,7 @@ use Rattle.lists.specs.Extent.{over, within, runs}
 use Rattle.lists.specs.Holders.{holders}
 use Rattle.lists.specs.Edits.{insertOutcome, insertSharedOutcome}
 use Rattle.groups.specs.LetGo.{Gone, letGoOutcome}
+use Rattle.groups.specs.TakeHeld.{Both, takeHeldOutcome}
 
 -- ---- holders
 
@@ -80,15 +81,17 @@ held σ b = holders (recordsOf rmaps (σ .map)) b
 
 -- ---- one change
 
--- first takes by `insert` and by `insert_shared`, and lets go, with any extents and output lengths
+-- first takes by `insert` and by `insert_shared`, takes of held blocks, and lets go, with any extents and output lengths
 pub data Change : Type 0 where
   take : Rmap → (room : ℕ) → Change
   takeShared : Rmap → (room : ℕ) → Change
+  takeHeld : Rmap → (room countsRoom : ℕ) → Change
   letGo : Rmap → (room countsRoom freeRoom : ℕ) → Change
 
 abbrev pub extent : Change → Rmap
 extent (take x room) = x
 extent (takeShared x room) = x
+extent (takeHeld x room countsRoom) = x
 extent (letGo x room countsRoom freeRoom) = x
 
 -- what an accepted call leaves: the lists, and the free extents that it offers
@@ -100,6 +103,9 @@ pub record Left : Type 0 where
 abbrev pub took : Lists → List Rmap → Left
 took σ m = record { lists = record { map = bytesOf rmaps m; counts = σ .counts }; free = [] }
 
+abbrev pub tookHeld : Both → Left
+tookHeld g = record { lists = record { map = bytesOf rmaps (g .map); counts = bytesOf refcounts (g .counts) }; free = [] }
+
 abbrev pub went : Gone → Left
 went g = record { lists = record { map = bytesOf rmaps (g .map); counts = bytesOf refcounts (g .counts) }; free = g .free }
 
@@ -107,6 +113,7 @@ went g = record { lists = record { map = bytesOf rmaps (g .map); counts = bytesO
 unfoldable pub step : Lists → Change → Outcome Left
 step σ (take x room) = mapOutcome (took σ) (insertOutcome (σ .map) x room)
 step σ (takeShared x room) = mapOutcome (took σ) (insertSharedOutcome (σ .map) x room)
+step σ (takeHeld x room countsRoom) = mapOutcome tookHeld (takeHeldOutcome (σ .map) (σ .counts) x room countsRoom)
 step σ (letGo x room countsRoom freeRoom) = mapOutcome went (letGoOutcome (σ .map) (σ .counts) x room countsRoom freeRoom)
 
 -- each call reads the lists the last accepted one left
@@ -119,15 +126,23 @@ unfoldable pub covered : Outcome Left → Rmap → ℕ → ℕ
 covered (done w) x b = within (x .startblock) (x .blockcount) 1 b
 covered (refused n v) x b = 0
 
--- the same of takes alone, and of lets go alone
+-- the same of first takes alone, of all takes, and of lets go alone
+unfoldable pub firstTaken : Change → Outcome Left → ℕ → ℕ
+firstTaken (take x room) o b = covered o x b
+firstTaken (takeShared x room) o b = covered o x b
+firstTaken (takeHeld x room countsRoom) o b = 0
+firstTaken (letGo x room countsRoom freeRoom) o b = 0
+
 unfoldable pub taken : Change → Outcome Left → ℕ → ℕ
 taken (take x room) o b = covered o x b
 taken (takeShared x room) o b = covered o x b
+taken (takeHeld x room countsRoom) o b = covered o x b
 taken (letGo x room countsRoom freeRoom) o b = 0
 
 unfoldable pub gone : Change → Outcome Left → ℕ → ℕ
 gone (take x room) o b = 0
 gone (takeShared x room) o b = 0
+gone (takeHeld x room countsRoom) o b = 0
 gone (letGo x room countsRoom freeRoom) o b = covered o x b
 
 -- ---- the whole list
@@ -191,8 +206,8 @@ pub record Start (σ : Lists) (cs : List Change) : Type 0 where
   pub agree : Agreeing σ
   -- an extent's numbers are those of its fields
   pub extents : (before : List Change) (c : Change) → At cs before c → RmapFits (extent c)
-  -- no accepted take covering a block then held
-  pub fresh : (before : List Change) (c : Change) → At cs before c → (b : ℕ) → 0 < taken c (step (run σ before) c) b → Held σ before b → ⊥
+  -- no accepted first take covering a block then held
+  pub fresh : (before : List Change) (c : Change) → At cs before c → (b : ℕ) → 0 < firstTaken c (step (run σ before) c) b → Held σ before b → ⊥
 
 -- what comes of it
 pub record Claim (σ : Lists) (cs : List Change) : Type 0 where

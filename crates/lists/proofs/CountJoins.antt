@@ -1,4 +1,4 @@
--- Laws of joining record by record: one push, and the three of a record that is lowered.
+-- Laws of joining record by record: one push, and the three of a record that is changed.
 -- Assumes nothing.
 use Prim.Native.Nat.{ℕ, zero, suc, _+_, _-_, _*_, _^_, _≤_, _<_, min, max}
 use native.Mathlib.Omega.{arith}
@@ -13,9 +13,9 @@ use Rattle.codec.specs.declared.refcount.Refcount.{Refcount}
 use Rattle.codec.proofs.RecordLists.{length-bytesOf, bytesOf-append}
 use Rattle.codec.proofs.RecordKinds.{refcounts-lawful}
 use Rattle.lists.specs.declared.join.Joiner.{Joiner}
-use Rattle.lists.specs.Release.{stop, piece, middle, clamp, lowered, continues, joined, joinFrom, joinAll}
-use Rattle.lists.specs.Passes.{putIf, recordOf, pending, joinOn, goesOn, fewer, share, Lies, Fits, Room, Cut, Pushed}
-use Rattle.lists.proofs.Cases.{split, tests}
+use Rattle.lists.specs.Release.{stop, piece, clamp, continues, joined, joinFrom, joinAll}
+use Rattle.lists.specs.Passes.{putIf, recordOf, pending, joinOn, goesOn, fewer, more, next, fresh, share, changed, changedFrom, Lies, Fits, Room, Cut, Pushed}
+use Rattle.lists.proofs.Cases.{split, tests, conj}
 use Rattle.lists.proofs.Puts.{put-nil, put-put}
 
 abbrev W : List Refcount → List ℕ
@@ -96,17 +96,13 @@ pub share-zero : (a z n : ℕ) → n ≡ 0 → share a z n ≡ []
 unfolding share
 share-zero a z n h = rw (eq-eqb n 0 h) refl
 
-share-piece : (a z n : ℕ) → 0 < n → share a z n ≡ piece a z n
+pub share-piece : (a z n : ℕ) → 0 < n → share a z n ≡ piece a z n
 unfolding share
 share-piece a z n h = rw (ne-eqb n 0 (omega arith)) refl
 
 share-some : (a z n : ℕ) → a < z → 0 < n → share a z n ≡ record { startblock = a; blockcount = z - a; refcount = n } ∷ []
 unfolding share piece
 share-some a z n h k = rw (ne-eqb n 0 (omega arith), lt-ltb a z h) refl
-
-share-middle : (a z n : ℕ) → share a z (fewer n) ≡ middle a z n
-unfolding share fewer middle
-share-middle a z n = split (leb n 2) (λ e. rw e refl) (λ e. rw e (rw (ne-eqb (n - 1) 0 (omega tests)) refl))
 
 pub fewer-none : (n : ℕ) → n ≤ 2 → 0 ≡ fewer n
 unfolding fewer
@@ -115,6 +111,23 @@ fewer-none n h = rw (le-leb n 2 h) refl
 pub fewer-some : (n : ℕ) → 2 < n → n - 1 ≡ fewer n
 unfolding fewer
 fewer-some n h = rw (lt-leb n 2 h) refl
+
+pub more-full : (n : ℕ) → 2 ^ 32 - 1 ≤ n → n ≡ more n
+unfolding more
+more-full n h = rw (le-leb (2 ^ 32 - 1) n h) refl
+
+pub more-some : (n : ℕ) → n < 2 ^ 32 - 1 → n + 1 ≡ more n
+unfolding more
+more-some n h = rw (lt-leb (2 ^ 32 - 1) n h) refl
+
+module _ (up : Bool) (n m : ℕ) where
+  pub next-more : up ≡ true → m ≡ more n → m ≡ next up n
+  unfolding next
+  next-more h e = rw h e
+
+  pub next-fewer : up ≡ false → m ≡ fewer n → m ≡ next up n
+  unfolding next
+  next-fewer h e = rw h e
 
 -- ---- one push
 
@@ -213,7 +226,7 @@ module _ (j : Joiner) (a n : ℕ) where
 
 -- ---- one push after another
 
-pushed-pushed : (w : Bool) (i j k : Joiner) (out out′ out″ : List ℕ) (p q : List Refcount) (y z : ℕ) → Pushed w i out p y j out′ → Pushed w j out′ q z k out″ → Pushed w i out (p ++ q) z k out″
+pub pushed-pushed : (w : Bool) (i j k : Joiner) (out out′ out″ : List ℕ) (p q : List Refcount) (y z : ℕ) → Pushed w i out p y j out′ → Pushed w j out′ q z k out″ → Pushed w i out (p ++ q) z k out″
 pushed-pushed w i j k out out′ out″ p q y z f g =
     record {
       fits = g .fits;
@@ -239,18 +252,32 @@ lies-fewer a z n b y f g h =
     (λ e. rw e (record { end = omega (arith, f .end); owners = omega arith; shared = λ u. absurd (omega arith); staging = λ u. absurd (omega arith) }))
     (λ e. rw e (record { end = omega (arith, f .end); owners = omega (arith, f .owners); shared = λ u. omega (arith, f .shared (omega tests)); staging = λ u. absurd (omega tests) }))
 
-parts : (s e : ℕ) (r : Refcount) (a z m : ℕ) → 0 < r .refcount → a ≡ max (r .startblock) (min s (stop r)) → z ≡ max (r .startblock) (min e (stop r)) → m ≡ fewer (r .refcount)
-    → lowered s e r ≡ share (r .startblock) a (r .refcount) ++ (share a z m ++ share z (stop r) (r .refcount))
-unfolding lowered clamp
-parts s e r a z m o qa qz qm =
-    rw (qm, share-middle a z (r .refcount), share-piece (r .startblock) a (r .refcount) o, share-piece z (stop r) (r .refcount) o, qa, qz) refl
+lies-more : (a z n b y : ℕ) → Lies a z n → 2 ≤ n → a ≤ b → y ≤ z → Lies b y (more n)
+unfolding more
+lies-more a z n b y f o g h =
+    split (leb (2 ^ 32 - 1) n)
+    (λ e. rw e (record { end = omega (arith, f .end); owners = f .owners; shared = λ u. omega (arith, f .shared o); staging = λ u. absurd (omega arith) }))
+    (λ e. rw e (record { end = omega (arith, f .end); owners = omega tests; shared = λ u. omega (arith, f .shared o); staging = λ u. absurd (omega arith) }))
+
+-- a record that begins below 2^31 is shared
+lies-next : (up : Bool) (a z n b y : ℕ) → Lies a z n → 0 < n → a < 2 ^ 31 → a ≤ b → y ≤ z → Lies b y (next up n)
+unfolding next
+lies-next true a z n b y f o l g h =
+    lies-more a z n b y f (split (leb n 1) (λ e. let q : n ≡ 1 = omega tests in omega (arith, f .staging q)) (λ e. omega tests)) g h
+lies-next false a z n b y f o l g h = lies-fewer a z n b y f g h
+
+parts : (up : Bool) (s e : ℕ) (r : Refcount) (a z m : ℕ) → 0 < r .refcount → a ≡ max (r .startblock) (min s (stop r)) → z ≡ max (r .startblock) (min e (stop r)) → m ≡ next up (r .refcount)
+    → changed up s e r ≡ share (r .startblock) a (r .refcount) ++ (share a z m ++ share z (stop r) (r .refcount))
+unfolding changed clamp
+parts up s e r a z m o qa qz qm =
+    rw (qm, share-piece (r .startblock) a (r .refcount) o, share-piece z (stop r) (r .refcount) o, qa, qz) refl
 
 -- what a push asks
 abbrev pub Asks : Bool → Joiner → (a z n room : ℕ) → Type 0
 Asks w j a z n room = Lies a z n × (((a ≤ z) × (j .start + j .count ≤ a)) × (Fits j × Room w j room))
 
-module _ (w : Bool) (s e : ℕ) (j : Joiner) (r : Refcount) (out : List ℕ) (cut : Cut w s e j r (length out)) (a z m : ℕ)
-    (qa : a ≡ max (r .startblock) (min s (stop r))) (qz : z ≡ max (r .startblock) (min e (stop r))) (qm : m ≡ fewer (r .refcount)) where
+module _ (up w : Bool) (s e : ℕ) (j : Joiner) (r : Refcount) (out : List ℕ) (cut : Cut up w s e j r (length out)) (met : r .startblock < e) (a z m : ℕ)
+    (qa : a ≡ max (r .startblock) (min s (stop r))) (qz : z ≡ max (r .startblock) (min e (stop r))) (qm : m ≡ next up (r .refcount)) where
   abbrev front : List Refcount
   front = share (r .startblock) a (r .refcount)
 
@@ -258,7 +285,7 @@ module _ (w : Bool) (s e : ℕ) (j : Joiner) (r : Refcount) (out : List ℕ) (cu
   behind = share z (stop r) (r .refcount)
 
   room-all : w ≡ true → j .at + length (W (joinOn j (front ++ (share a z m ++ behind)))) ≤ length out
-  room-all u = rw (← parts s e r a z m (cut .owned) qa qz qm) (cut .room u)
+  room-all u = rw (← parts up s e r a z m (cut .owned) qa qz qm) (cut .room u)
 
   pub asks-front : Asks w j (r .startblock) a (r .refcount) (length out)
   asks-front =
@@ -272,7 +299,8 @@ module _ (w : Bool) (s e : ℕ) (j : Joiner) (r : Refcount) (out : List ℕ) (cu
     pub asks-middle : Asks w k a z m (length out′)
     asks-middle =
         let h : s ≤ e = cut .extent in
-        let f : Lies a z (fewer (r .refcount)) = lies-fewer _ _ _ _ _ (cut .lies) (omega arith) (omega arith) in
+        let l : e ≤ 2 ^ 31 = cut .end in
+        let f : Lies a z (next up (r .refcount)) = lies-next up _ _ _ _ _ (cut .lies) (cut .owned) (omega arith) (omega arith) (omega arith) in
         (rw qm f, ((omega arith, g .behind), (g .fits, room-for w k (share a z m ++ behind) (length out′) room-more)))
 
     module _ (i : Joiner) (out″ : List ℕ) (g′ : Pushed w k out′ (share a z m) z i out″) (n′ : length out″ ≡ length out′) where
@@ -280,45 +308,41 @@ module _ (w : Bool) (s e : ℕ) (j : Joiner) (r : Refcount) (out : List ℕ) (cu
       asks-behind =
           (lies-part _ _ _ _ _ (cut .lies) (omega arith) (omega arith), ((omega arith, g′ .behind), (g′ .fits, room-for w i behind (length out″) (pushed-room w k i out′ out″ (share a z m) behind z g′ n′ room-more))))
 
-      pub lowered-pushed : (last : Joiner) (out‴ : List ℕ) → Pushed w i out″ behind (stop r) last out‴ → Pushed w j out (lowered s e r) (stop r) last out‴
-      lowered-pushed last out‴ g″ =
-          rw (parts s e r a z m (cut .owned) qa qz qm)
+      pub changed-pushed : (last : Joiner) (out‴ : List ℕ) → Pushed w i out″ behind (stop r) last out‴ → Pushed w j out (changed up s e r) (stop r) last out‴
+      changed-pushed last out‴ g″ =
+          rw (parts up s e r a z m (cut .owned) qa qz qm)
           (pushed-pushed w j k last out out′ out‴ front (share a z m ++ behind) a (stop r) g (pushed-pushed w k i last out′ out″ out‴ (share a z m) behind z (stop r) g′ g″))
 
 -- a record that the extent does not meet
 
-piece-none : (a n : ℕ) → piece a a n ≡ []
+pub piece-none : (a n : ℕ) → piece a a n ≡ []
 unfolding piece
 piece-none a n = rw (le-ltb a a (omega arith)) refl
 
-middle-none : (a n : ℕ) → middle a a n ≡ []
-unfolding middle
-middle-none a n = split (leb n 2) (λ t. rw t refl) (λ t. rw t (piece-none a (n - 1)))
-
-clamp-low : (r : Refcount) (s : ℕ) → s ≤ r .startblock → clamp r s ≡ r .startblock
+pub clamp-low : (r : Refcount) (s : ℕ) → s ≤ r .startblock → clamp r s ≡ r .startblock
 unfolding clamp
 clamp-low r s h = omega arith
 
-clamp-high : (r : Refcount) (s : ℕ) → stop r ≤ s → clamp r s ≡ stop r
+pub clamp-high : (r : Refcount) (s : ℕ) → stop r ≤ s → clamp r s ≡ stop r
 unfolding clamp
 clamp-high r s h = omega arith
 
-module _ (w : Bool) (s e : ℕ) (j : Joiner) (r : Refcount) (out : List ℕ) (cut : Cut w s e j r (length out)) (apart : (ltb s (stop r) && ltb (r .startblock) e) ≡ false) where
-  untouched : lowered s e r ≡ share (r .startblock) (stop r) (r .refcount)
-  unfolding lowered
+module _ (up w : Bool) (s e : ℕ) (j : Joiner) (r : Refcount) (out : List ℕ) (cut : Cut up w s e j r (length out)) (apart : (ltb s (stop r) && ltb (r .startblock) e) ≡ false) where
+  untouched : changed up s e r ≡ share (r .startblock) (stop r) (r .refcount)
+  unfolding changed
   untouched =
       let h : s ≤ e = cut .extent in
       rw (share-piece (r .startblock) (stop r) (r .refcount) (cut .owned))
       (split (ltb s (stop r))
       (λ u. let v : ltb (r .startblock) e ≡ false = rw u at apart in
-      rw (clamp-low r s (omega tests), clamp-low r e (omega tests), piece-none (r .startblock) (r .refcount), middle-none (r .startblock) (r .refcount)) refl)
-      (λ u. rw (clamp-high r s (omega tests), clamp-high r e (omega tests), middle-none (stop r) (r .refcount), piece-none (stop r) (r .refcount))
+      rw (clamp-low r s (omega tests), clamp-low r e (omega tests), piece-none (r .startblock) (r .refcount), share-none (r .startblock) (r .startblock) (next up (r .refcount)) (omega arith)) refl)
+      (λ u. rw (clamp-high r s (omega tests), clamp-high r e (omega tests), share-none (stop r) (stop r) (next up (r .refcount)) (omega arith), piece-none (stop r) (r .refcount))
       (append-nil (piece (r .startblock) (stop r) (r .refcount)))))
 
   pub asks-whole : Asks w j (r .startblock) (stop r) (r .refcount) (length out)
-  asks-whole = (cut .lies, ((omega arith, cut .behind), (cut .fits, room-for w j (lowered s e r) (length out) (cut .room))))
+  asks-whole = (cut .lies, ((omega arith, cut .behind), (cut .fits, room-for w j (changed up s e r) (length out) (cut .room))))
 
-  pub whole-pushed : (k : Joiner) (out′ : List ℕ) → Pushed w j out (share (r .startblock) (stop r) (r .refcount)) (stop r) k out′ → Pushed w j out (lowered s e r) (stop r) k out′
+  pub whole-pushed : (k : Joiner) (out′ : List ℕ) → Pushed w j out (share (r .startblock) (stop r) (r .refcount)) (stop r) k out′ → Pushed w j out (changed up s e r) (stop r) k out′
   whole-pushed k out′ g = rw untouched g
 
 module _ (start end s e : ℕ) where
@@ -327,3 +351,24 @@ module _ (start end s e : ℕ) where
 
   pub meets-by : s < end → ltb start e ≡ (ltb s end && ltb start e)
   meets-by h = rw (lt-ltb s end h) refl
+
+  pub meets-start : (ltb s end && ltb start e) ≡ true → start < e
+  meets-start h = let k : ltb start e ≡ true = search conj in omega tests
+
+-- ---- places that no record tells of
+
+module _ (up w : Bool) (j : Joiner) (a z : ℕ) (low : z ≤ 2 ^ 31) (behind : j .start + j .count ≤ a) (fits : Fits j) where
+  pub fill-none : (out : List ℕ) → share a z (fresh up) ≡ [] → Pushed w j out (share a z (fresh up)) (max (j .start + j .count) z) j out
+  fill-none out e = push-none w j out (share a z (fresh up)) (max (j .start + j .count) z) fits (omega arith) e
+
+  pub asks-fill : (n : ℕ) → a < z → Room w j n → Asks w j a z 2 n
+  asks-fill n h room =
+      (record { end = omega arith; owners = omega arith; shared = λ u. low; staging = λ u. absurd (omega arith) }, ((omega arith, behind), (fits, room)))
+
+  pub fill-pushed : (k : Joiner) (out out′ : List ℕ) → up ≡ true → Pushed w j out (share a z 2) z k out′ → Pushed w j out (share a z (fresh up)) (max (j .start + j .count) z) k out′
+  unfolding fresh
+  fill-pushed k out out′ u g = rw u (record { fits = g .fits; behind = omega (arith, g .behind); size = g .size; bytes = g .bytes })
+
+pub fresh-none : (up : Bool) (a z : ℕ) → up ≡ false → share a z (fresh up) ≡ []
+unfolding fresh
+fresh-none up a z h = rw h (share-zero a z 0 refl)

@@ -145,7 +145,7 @@ storable-remove x l n h k = wide-storable least (remove x l) (acc-remove x l n h
 abbrev pub Narrow : Refcount → Type 0
 Narrow r = r .refcount < 2 ^ 32
 
-narrow-piece : (a z n : ℕ) → n < 2 ^ 32 → All Narrow (R.piece a z n)
+pub narrow-piece : (a z n : ℕ) → n < 2 ^ 32 → All Narrow (R.piece a z n)
 unfolding R.piece
 narrow-piece a z n h = split (ltb a z) (λ e. rw e (h, tt)) (λ e. rw e tt)
 
@@ -171,12 +171,12 @@ unfolding R.joinFrom
 narrow-joinFrom r [] g h = (g, tt)
 narrow-joinFrom r (s ∷ l) g h = split (R.continues r s) (λ e. rw e (narrow-joinFrom (R.joined r s) l g (h .1))) (λ e. rw e (g, narrow-joinFrom s l (h .0) (h .1)))
 
-narrow-joinAll : (l : List Refcount) → All Narrow l → All Narrow (R.joinAll l)
+pub narrow-joinAll : (l : List Refcount) → All Narrow l → All Narrow (R.joinAll l)
 unfolding R.joinAll
 narrow-joinAll [] h = tt
 narrow-joinAll (r ∷ l) h = narrow-joinFrom r l (h .0) (h .1)
 
-storable-narrow : (l : List Refcount) → AllStorable refcounts l → All Narrow l
+pub storable-narrow : (l : List Refcount) → AllStorable refcounts l → All Narrow l
 storable-narrow [] h = tt
 storable-narrow (r ∷ l) h = (h .0 .refcount, storable-narrow l (h .1))
 
@@ -184,7 +184,7 @@ narrow-fits : (r : Refcount) → 0 < r .blockcount → C.OfKind r → Narrow r �
 narrow-fits r n (C.shared p q) k = record { startblock = omega arith; blockcount = omega arith; refcount = k }
 narrow-fits r n (C.staged p q t) k = record { startblock = omega arith; blockcount = omega arith; refcount = k }
 
-narrow-storable : (e : ℕ) (l : List Refcount) → C.From e l → All Narrow l → AllStorable refcounts l
+pub narrow-storable : (e : ℕ) (l : List Refcount) → C.From e l → All Narrow l → AllStorable refcounts l
 narrow-storable e [] h k = tt
 narrow-storable e (r ∷ l) h k = (narrow-fits r (h .0 .0) (h .0 .1) (k .0), narrow-storable (R.stop r) l (h .2) (k .1))
 

@@ -2,10 +2,12 @@ pub mod Cases
 pub mod Found
 pub mod RmapOrder
 pub mod Holders
+pub mod Holding
 pub mod Places
 pub mod Counts
 pub mod Runs
 pub mod Fits
+pub mod Raising
 pub mod Longest
 pub mod Laws
 pub mod Index
@@ -21,8 +23,10 @@ pub mod Placing
 pub mod PlanMeaning
 pub mod Puts
 pub mod CountJoins
+pub mod Changes
 pub mod FreeRuns
 pub mod Passing
 pub mod Staged
 pub mod Releasing
+pub mod RaiseExits
 pub mod Staying

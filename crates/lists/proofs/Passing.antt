@@ -25,18 +25,24 @@ use Rattle.codec.proofs.RecordKinds.{refcounts-lawful}
 use Rattle.lists.specs.declared.EditRefusal.the-variants as why
 use Rattle.lists.specs.declared.Released.{Released}
 use Rattle.lists.specs.declared.Released.the-variants as released
+use Rattle.lists.specs.declared.join.Joiner.{Joiner}
 use Rattle.lists.specs.declared.pass.Walk.{Walk}
-use Rattle.lists.specs.Release.{stop, clear, lowered, lowerAll, joinAll, release, unshared}
+use Rattle.lists.specs.Release.{stop, clear, joinAll, unshared}
+use Rattle.lists.specs.Raise.{full, ownersFit, Raisable}
 use Rattle.lists.specs.Answer.{releasedOutcome, lengthsOf}
-use Rattle.lists.specs.Steps.{passOutcome, Writable, Passable}
-use Rattle.lists.specs.Passes.{putIf, run, pending, joinOn, begun, Lies, Fits, Room, Cut, Pushed, StepAsks, Stepped}
+use Rattle.lists.specs.Steps.{edited, fitIf, passOutcome, Writable, Passable}
+use Rattle.lists.specs.Passes.{putIf, run, pending, joinOn, fresh, share, changed, changedFrom, changeAll, begun, Lies, Fits, Room, Cut, Pushed, StepAsks, Stepped}
 use Rattle.lists.proofs.Cases.{split, tests, and-true}
 use Rattle.lists.proofs.Places.{goodPlace, acceptedFrom, good-place, follows-place}
 use Rattle.lists.proofs.Counts.{OfKind, shared, staged, Good, from-facts, accepted-facts}
 use Rattle.lists.proofs.Runs.{gaps, unshared-gaps}
 use Rattle.lists.proofs.Puts.{put-done, Going, going-start, going-put, going-room, going-end}
-use Rattle.lists.proofs.CountJoins.{joinOn-nil, joinOn-more, room-for}
+use Rattle.lists.proofs.CountJoins.{joinOn-nil, joinOn-more, room-for, pushed-pushed}
+use Rattle.lists.proofs.Changes.{edited-is}
 use Rattle.lists.proofs.FreeRuns.{run-place, gaps-step, gaps-end}
+
+pub no : {P : Type 0} → false ≡ true → P
+no e = absurd (let y : _≡_ {A = ℕ} 0 1 = cc in omega arith)
 
 abbrev C : List Refcount → List ℕ
 C l = bytesOf refcounts l
@@ -93,25 +99,28 @@ and-assoc false b c = refl
 
 -- ---- between two records: l are those to come
 
-pub record Walking (write : Bool) (all : List Refcount) (s e : ℕ) (new₀ free₀ new₁ free₁ : List ℕ) (w : Walk) (l : List Refcount) : Type 0 where
+pub record Walking (up write list : Bool) (all : List Refcount) (s e : ℕ) (new₀ free₀ new₁ free₁ : List ℕ) (w : Walk) (l : List Refcount) : Type 0 where
   pub order : accepted all ≡ inOrder good follows (w .prev) l
   pub clear : clear s e all ≡ (w .clear && clear s e l)
+  pub fit : ownersFit s e all ≡ (w .fit && ownersFit s e l)
   pub prev : Passed (w .prev)
   pub fits : Fits (w .joiner)
   pub behind : w .joiner .start + w .joiner .count ≤ stop (w .prev)
-  pub counts : Going write (C (release s e all)) new₀ new₁ (w .joiner .at) (C (joinOn (w .joiner) (lowerAll s e l)))
+  pub counts : Going write (C (joinAll (changeAll up s e s all))) new₀ new₁ (w .joiner .at) (C (joinOn (w .joiner) (changeAll up s e (w .gap) l)))
   pub low : s ≤ w .gap
+  pub past : stop (w .prev) ≤ w .gap
   pub gap : w .gap ≤ 2 ^ 32
   pub place : w .free ≤ 8 * w .gap
-  pub extents : Going write (bytesOf freeExtents (gaps s e all)) free₀ free₁ (w .free) (bytesOf freeExtents (gaps (w .gap) e l))
+  pub extents : Going list (bytesOf freeExtents (gaps s e all)) free₀ free₁ (w .free) (bytesOf freeExtents (gaps (w .gap) e l))
 
-pub walking-start : (write : Bool) (all : List Refcount) (s e : ℕ) (new free : List ℕ) (w : Walk) → w ≡ begun s → s ≤ 2 ^ 32
-    → Walking write all s e new free new free w all
+pub walking-start : (up write list : Bool) (all : List Refcount) (s e : ℕ) (new free : List ℕ) (w : Walk) → w ≡ begun s → s ≤ 2 ^ 32
+    → Walking up write list all s e new free new free w all
 unfolding joinOn
-walking-start write all s e new free w q h =
+walking-start up write list all s e new free w q h =
     rw q (record {
       order = refl;
       clear = refl;
+      fit = refl;
       prev = inl refl;
       fits =
           record {
@@ -122,172 +131,254 @@ walking-start write all s e new free w q h =
       behind = omega arith;
       counts = going-start write _ new _ refl;
       low = omega arith;
+      past = omega arith;
       gap = h;
       place = omega arith;
-      extents = going-start write _ free _ refl;
+      extents = going-start list _ free _ refl;
     })
 
 -- what was lent has room where it is written
-pub record Rooms (write : Bool) (all : List Refcount) (s e room freeRoom : ℕ) : Type 0 where
+pub record Rooms (up write list : Bool) (all : List Refcount) (s e room freeRoom : ℕ) : Type 0 where
   pub extent : s ≤ e
   pub end : e ≤ 2 ^ 31
-  pub counts : write ≡ true → length (C (release s e all)) ≤ room
-  pub extents : write ≡ true → length (bytesOf freeExtents (gaps s e all)) ≤ freeRoom
+  pub counts : write ≡ true → length (C (joinAll (changeAll up s e s all))) ≤ room
+  pub extents : list ≡ true → length (bytesOf freeExtents (gaps s e all)) ≤ freeRoom
 
-module _ (write : Bool) (all : List Refcount) (s e : ℕ) (new₀ free₀ new free : List ℕ) (w : Walk) (rooms : Rooms write all s e (length new₀) (length free₀)) where
-  module _ (r : Refcount) (l m : List Refcount) (q : l ≡ r ∷ m) (walking : Walking write all s e new₀ free₀ new free w l)
+module _ (up write list : Bool) (all : List Refcount) (s e : ℕ) (new₀ free₀ new free : List ℕ) (w : Walk) (rooms : Rooms up write list all s e (length new₀) (length free₀)) where
+  module _ (r : Refcount) (l m : List Refcount) (q : l ≡ r ∷ m) (walking : Walking up write list all s e new₀ free₀ new free w l)
       (small : r .startblock < 2 ^ 32) (few : r .refcount < 2 ^ 32) (g : good r ≡ true) (f : follows (w .prev) r ≡ true) where
-    inv : Walking write all s e new₀ free₀ new free w (r ∷ m)
+    inv : Walking up write list all s e new₀ free₀ new free w (r ∷ m)
     inv = rw q at walking
 
     placed : goodPlace r ≡ true
     placed = sym (good-place r small) ∙ g
 
-    lower-more : C (joinOn (w .joiner) (lowerAll s e (r ∷ m))) ≡ C (joinOn (w .joiner) (lowered s e r ++ lowerAll s e m))
-    unfolding lowerAll
-    lower-more = refl
+    -- the records to come behind r
+    abbrev rest : List Refcount
+    rest = changeAll up s e (max (w .gap) (stop r)) m
 
-    pub step-asks : StepAsks write s e w r (length new) (length free)
+    change-more : C (joinOn (w .joiner) (changeAll up s e (w .gap) (r ∷ m))) ≡ C (joinOn (w .joiner) (changedFrom up s e (w .gap) r ++ rest))
+    unfolding changeAll
+    change-more = refl
+
+    pub step-asks : StepAsks up write list s e w r (length new) (length free)
     step-asks =
         let lies = record-lies r (good-facts r placed) few in
         let after = follows-stop (w .prev) r (inv .prev) small f in
         record {
-          cut =
-              record {
-                extent = rooms .extent;
-                fits = inv .fits;
-                lies = lies .0;
-                owned = lies .1;
-                behind = omega (arith, inv .behind);
-                room = λ u. omega (arith, rooms .counts u, inv .counts .kept, inv .counts .size, ap length lower-more, joinOn-more (w .joiner) (lowered s e r) (lowerAll s e m));
-              };
+          extent = rooms .extent;
           end = rooms .end;
+          fits = inv .fits;
+          lies = lies .0;
+          owned = lies .1;
+          behind = omega (arith, inv .behind);
+          gap = omega (arith, inv .behind, inv .past);
+          counts = λ u. omega (arith, rooms .counts u, inv .counts .kept, inv .counts .size, ap length change-more, joinOn-more (w .joiner) (changedFrom up s e (w .gap) r) rest);
           place = omega (arith, inv .place, inv .gap);
-          room = going-room write _ free₀ free (w .free) _ (F (run (w .gap) (min (r .startblock) e))) (F (gaps (max (w .gap) (stop r)) e m)) (inv .extents) (gaps-step (w .gap) e r m) (rooms .extents);
+          room = going-room list _ free₀ free (w .free) _ (F (run (w .gap) (min (r .startblock) e))) (F (gaps (max (w .gap) (stop r)) e m)) (inv .extents) (gaps-step (w .gap) e r m) (rooms .extents);
         }
 
-    pub walking-step : (k : Walk) (new′ free′ : List ℕ) → length new′ ≡ length new → length free′ ≡ length free → Stepped write s e w r new free k new′ free′
-        → Walking write all s e new₀ free₀ new′ free′ k m
-    unfolding inOrder clear lowerAll
+    pub walking-step : (k : Walk) (new′ free′ : List ℕ) → length new′ ≡ length new → length free′ ≡ length free → Stepped up write list s e w r new free k new′ free′
+        → Walking up write list all s e new₀ free₀ new′ free′ k m
+    unfolding inOrder clear ownersFit changeAll
     walking-step k new′ free′ hn hf t =
         let lies = record-lies r (good-facts r placed) few in
         let b = t .joiner in
         record {
           order = rw (t .prev) (inv .order ∙ rw (g, f) refl);
           clear = rw (t .clear) (inv .clear ∙ and-assoc (w .clear) (not (staging r && (ltb (block r) e && ltb s (end r)))) (clear s e m));
+          fit = rw (t .fit) (inv .fit ∙ and-assoc (w .fit) (not (full s e r)) (ownersFit s e m));
           prev = rw (t .prev) (inr (placed, small));
           fits = b .fits;
           behind = rw (t .prev) (b .behind);
           counts =
-              record {
+              rw (t .gap)
+              (record {
                 kept = omega (arith, inv .counts .kept);
-                size = omega (arith, b .size (lowerAll s e m), inv .counts .size);
-                bytes = b .bytes (lowerAll s e m) ∙ inv .counts .bytes;
-              };
+                size = omega (arith, b .size rest, inv .counts .size);
+                bytes = b .bytes rest ∙ inv .counts .bytes;
+              });
           low = omega (arith, t .gap, inv .low);
+          past = rw (t .prev) (omega (arith, t .gap));
           gap = omega (arith, t .gap, inv .gap, lies .0 .end);
           place = rw (t .place, t .gap) (run-place (w .gap) (min (r .startblock) e) (stop r) (w .free) (inv .place) (omega arith));
-          extents = rw (t .gap) (going-put write _ free₀ free (w .free) _ (F (run (w .gap) (min (r .startblock) e))) (F (gaps (max (w .gap) (stop r)) e m)) (inv .extents) (gaps-step (w .gap) e r m) (rooms .extents) free′ (k .free) (t .place) (t .bytes) hf);
+          extents = rw (t .gap) (going-put list _ free₀ free (w .free) _ (F (run (w .gap) (min (r .startblock) e))) (F (gaps (max (w .gap) (stop r)) e m)) (inv .extents) (gaps-step (w .gap) e r m) (rooms .extents) free′ (k .free) (t .place) (t .bytes) hf);
         }
 
   -- behind the last record
-  module _ (l : List Refcount) (q : l ≡ []) (walking : Walking write all s e new₀ free₀ new free w l) where
-    last : Walking write all s e new₀ free₀ new free w []
+  module _ (l : List Refcount) (q : l ≡ []) (walking : Walking up write list all s e new₀ free₀ new free w l) where
+    last : Walking up write list all s e new₀ free₀ new free w []
     last = rw q at walking
 
     pub last-accepted : accepted all ≡ true
     unfolding inOrder
     last-accepted = last .order
 
+    and-last : (t : Bool) → (t && true) ≡ t
+    and-last true = refl
+    and-last false = refl
+
     pub last-clear : (t : Bool) → w .clear ≡ t → clear s e all ≡ t
     unfolding clear
-    last-clear t h = last .clear ∙ rw h (go t)
+    last-clear t h = last .clear ∙ rw h (and-last t)
+
+    -- 28 fails where there are too many owners
+    pub last-fit : fitIf up s e all ≡ not (up && not (w .fit))
+    unfolding ownersFit
+    last-fit = go up (w .fit) (last .fit ∙ and-last (w .fit))
       where
-        go : (t : Bool) → (t && true) ≡ t
-        go true = refl
-        go false = refl
+        go : (u t : Bool) → ownersFit s e all ≡ t → fitIf u s e all ≡ not (u && not t)
+        go false t h = refl
+        go true true h = h
+        go true false h = h
 
-    counts-left : C (joinOn (w .joiner) (lowerAll s e [])) ≡ C (pending (w .joiner))
-    unfolding lowerAll
-    counts-left = ap C (joinOn-nil (w .joiner))
+    left : changeAll up s e (w .gap) [] ≡ share (w .gap) e (fresh up) ++ []
+    unfolding changeAll
+    left = sym (append-nil (share (w .gap) e (fresh up)))
 
-    pub finish-asks : Fits (w .joiner) × Room write (w .joiner) (length new)
-    finish-asks = (last .fits, room-for write (w .joiner) (lowerAll s e []) (length new) (λ u. omega (arith, rooms .counts u, last .counts .kept, last .counts .size)))
+    ahead : Going write (C (joinAll (changeAll up s e s all))) new₀ new (w .joiner .at) (C (joinOn (w .joiner) (share (w .gap) e (fresh up) ++ [])))
+    ahead = rw left at (last .counts)
 
-    pub finish-done : (n : ℕ) (new′ : List ℕ) → n ≡ w .joiner .at + length (C (pending (w .joiner))) → new′ ≡ putIf write new (w .joiner .at) (C (pending (w .joiner)))
-        → (n ≡ length (C (release s e all))) × (new′ ≡ putIf write new₀ 0 (C (release s e all)))
-    finish-done n new′ h b = going-end write _ new₀ new new′ (w .joiner .at) n _ _ (last .counts) counts-left h b
+    pub fill-asks : ((e ≤ 2 ^ 31) × (w .joiner .start + w .joiner .count ≤ w .gap)) × (Fits (w .joiner) × Room write (w .joiner) (length new))
+    fill-asks = (
+      (rooms .end, omega (arith, last .behind, last .past)),
+      (last .fits, room-for write (w .joiner) (share (w .gap) e (fresh up) ++ []) (length new) (λ u. omega (arith, rooms .counts u, ahead .kept, ahead .size))),
+    )
 
-    pub run-asks : ((w .free ≤ 2 ^ 36) × (e ≤ 2 ^ 31)) × (write ≡ true → w .free + length (bytesOf freeExtents (run (w .gap) e)) ≤ length free)
+    module _ (j : Joiner) (z : ℕ) (new₁ : List ℕ) (n₁ : length new₁ ≡ length new) (p : Pushed write (w .joiner) new (share (w .gap) e (fresh up)) z j new₁) where
+      filled : Going write (C (joinAll (changeAll up s e s all))) new₀ new₁ (j .at) (C (joinOn j []))
+      filled = record { kept = omega (arith, ahead .kept); size = omega (arith, p .size [], ahead .size); bytes = p .bytes [] ∙ ahead .bytes }
+
+      pub finish-asks : Fits j × Room write j (length new₁)
+      finish-asks = (p .fits, room-for write j [] (length new₁) (λ u. omega (arith, rooms .counts u, filled .kept, filled .size)))
+
+      pub finish-done : (n : ℕ) (new′ : List ℕ) → n ≡ j .at + length (C (pending j)) → new′ ≡ putIf write new₁ (j .at) (C (pending j))
+          → (n ≡ length (C (joinAll (changeAll up s e s all)))) × (new′ ≡ putIf write new₀ 0 (C (joinAll (changeAll up s e s all))))
+      finish-done n new′ h b = going-end write _ new₀ new₁ new′ (j .at) n _ _ filled (ap C (joinOn-nil j)) h b
+
+    pub run-asks : ((w .free ≤ 2 ^ 36) × (e ≤ 2 ^ 31)) × (list ≡ true → w .free + length (bytesOf freeExtents (run (w .gap) e)) ≤ length free)
     run-asks = (
       (omega (arith, last .place, last .gap), rooms .end),
       λ u. omega (arith, rooms .extents u, last .extents .kept, last .extents .size, ap length (gaps-end (w .gap) e)),
     )
 
-    pub run-done : (n : ℕ) (free′ : List ℕ) → n ≡ w .free + length (bytesOf freeExtents (run (w .gap) e)) → free′ ≡ putIf write free (w .free) (bytesOf freeExtents (run (w .gap) e))
-        → (n ≡ length (bytesOf freeExtents (gaps s e all))) × (free′ ≡ putIf write free₀ 0 (bytesOf freeExtents (gaps s e all)))
-    run-done n free′ h b = going-end write _ free₀ free free′ (w .free) n _ _ (last .extents) (gaps-end (w .gap) e) h b
+    pub run-done : (n : ℕ) (free′ : List ℕ) → n ≡ w .free + length (bytesOf freeExtents (run (w .gap) e)) → free′ ≡ putIf list free (w .free) (bytesOf freeExtents (run (w .gap) e))
+        → (n ≡ length (bytesOf freeExtents (gaps s e all))) × (free′ ≡ putIf list free₀ 0 (bytesOf freeExtents (gaps s e all)))
+    run-done n free′ h b = going-end list _ free₀ free free′ (w .free) n _ _ (last .extents) (gaps-end (w .gap) e) h b
+
+-- the gap before a record is filled, and then the record is changed
+module _ (up write list : Bool) (s e : ℕ) (w : Walk) (r : Refcount) (new : List ℕ) (freeRoom : ℕ) (ask : StepAsks up write list s e w r (length new) freeRoom)
+    (z : ℕ) (qz : z ≡ min (r .startblock) e) where
+  pub fill-before : ((z ≤ 2 ^ 31) × (w .joiner .start + w .joiner .count ≤ w .gap)) × (Fits (w .joiner) × Room write (w .joiner) (length new))
+  fill-before = (
+    (omega (arith, ask .end), ask .gap),
+    (ask .fits, room-for write (w .joiner) (changedFrom up s e (w .gap) r) (length new) (ask .counts)),
+  )
+
+  module _ (j : Joiner) (new₁ : List ℕ) (n₁ : length new₁ ≡ length new)
+      (p : Pushed write (w .joiner) new (share (w .gap) z (fresh up)) (max (w .joiner .start + w .joiner .count) z) j new₁) where
+    before : Pushed write (w .joiner) new (share (w .gap) (min (r .startblock) e) (fresh up)) (max (w .joiner .start + w .joiner .count) z) j new₁
+    before = rw (← qz) p
+
+    pub cut-asks : Cut up write s e j r (length new₁)
+    cut-asks =
+        record {
+          extent = ask .extent;
+          end = ask .end;
+          fits = p .fits;
+          lies = ask .lies;
+          owned = ask .owned;
+          behind = omega (arith, p .behind, ask .behind);
+          room = λ u. omega (arith, ask .counts u, before .size (changed up s e r));
+        }
+
+    pub filled-changed : (k : Joiner) (new₂ : List ℕ) → Pushed write j new₁ (changed up s e r) (stop r) k new₂
+        → Pushed write (w .joiner) new (changedFrom up s e (w .gap) r) (stop r) k new₂
+    filled-changed k new₂ g =
+        pushed-pushed write (w .joiner) j k new new₁ new₂ (share (w .gap) (min (r .startblock) e) (fresh up)) (changed up s e r) (max (w .joiner .start + w .joiner .count) z) (stop r) before g
 
 -- ---- the answer at each exit
 
 -- the answer r, and both buffers where they are written
-abbrev pub Told : Bool → List Refcount → (start count : ℕ) → (new₀ free₀ : List ℕ) → Released → (new′ free′ : List ℕ) → Type 0
-Told write all start count new₀ free₀ r new′ free′ =
-    (releasedOutcome r ≡ lengthsOf (passOutcome all start count))
-    × ((write ≡ true → new′ ≡ withBytes new₀ 0 (C (release start (start + count) all)))
-    × (write ≡ true → free′ ≡ withBytes free₀ 0 (bytesOf freeExtents (unshared all start count))))
+abbrev pub Told : (up write list : Bool) → List Refcount → (start count : ℕ) → (new₀ free₀ : List ℕ) → Released → (new′ free′ : List ℕ) → Type 0
+Told up write list all start count new₀ free₀ r new′ free′ =
+    (releasedOutcome r ≡ lengthsOf (passOutcome up all start count))
+    × ((write ≡ true → new′ ≡ withBytes new₀ 0 (C (edited up start (start + count) all)))
+    × (list ≡ true → free′ ≡ withBytes free₀ 0 (bytesOf freeExtents (unshared all start count))))
 
-module _ (write : Bool) (all : List Refcount) (start count : ℕ) (new₀ free₀ : List ℕ) (ask : Passable all start count write (length new₀) (length free₀)) where
+module _ (up write list : Bool) (all : List Refcount) (start count : ℕ) (new₀ free₀ : List ℕ) (ask : Passable up all start count write list (length new₀) (length free₀)) where
   never : {P : Type 0} (t : Bool) → t ≡ true → t ≡ false → P
   never t a b = let z : _≡_ {A = Bool} true false = sym a ∙ b in absurd (let y : _≡_ {A = ℕ} 0 1 = cc in omega arith)
 
-  pub rooms-of : AllStorable refcounts all → Rooms write all start (start + count) (length new₀) (length free₀)
+  pub rooms-of : AllStorable refcounts all → Rooms up write list all start (start + count) (length new₀) (length free₀)
   rooms-of h =
       record {
         extent = omega arith;
         end = ask .end;
-        counts = λ u. ask .writable u .counts;
+        counts =
+            λ u. let k = accepted-facts all h (ask .accepted u) in
+            rw (edited-is up start (start + count) all (omega arith) k (ask .owners u)) at (ask .counts u);
         extents =
-            λ u. let k = ask .writable u in
-            rw (unshared-gaps all start count (accepted-facts all h (k .accepted)) (ask .end)) at (k .free);
+            λ u. let k = accepted-facts all h (ask .accepted (ask .listed u)) in
+            rw (unshared-gaps all start count k (ask .end)) at (ask .free u);
       }
 
   module _ (new′ free′ : List ℕ) where
-    pub told-order : accepted all ≡ false → Told write all start count new₀ free₀ (released.Refused (why.List RefcountOrder)) new′ free′
+    pub told-order : accepted all ≡ false → Told up write list all start count new₀ free₀ (released.Refused (why.List RefcountOrder)) new′ free′
     unfolding passOutcome
-    told-order h = (rw h refl, (λ u. never _ (ask .writable u .accepted) h, λ u. never _ (ask .writable u .accepted) h))
+    told-order h = (rw h refl, (λ u. never _ (ask .accepted u) h, λ u. never _ (ask .accepted (ask .listed u)) h))
 
     module _ (h : accepted all ≡ true) where
-      pub told-staging : clear start (start + count) all ≡ false → Told write all start count new₀ free₀ (released.Refused why.Staging) new′ free′
+      pub told-staging : clear start (start + count) all ≡ false → Told up write list all start count new₀ free₀ (released.Refused why.Staging) new′ free′
       unfolding passOutcome
-      told-staging k = (rw (h, k) refl, (λ u. never _ (ask .writable u .clear) k, λ u. never _ (ask .writable u .clear) k))
+      told-staging k = (rw (h, k) refl, (λ u. never _ (ask .clear u) k, λ u. never _ (ask .clear (ask .listed u)) k))
 
-      pub told-done : (n m : ℕ) → AllStorable refcounts all → clear start (start + count) all ≡ true
-          → (n ≡ length (C (release start (start + count) all))) × (new′ ≡ putIf write new₀ 0 (C (release start (start + count) all)))
-          → (m ≡ length (bytesOf freeExtents (gaps start (start + count) all))) × (free′ ≡ putIf write free₀ 0 (bytesOf freeExtents (gaps start (start + count) all)))
-          → Told write all start count new₀ free₀ (released.Done (record { counts = n; free = m })) new′ free′
-      unfolding passOutcome
-      told-done n m st k a b =
-          let q = unshared-gaps all start count (accepted-facts all st h) (ask .end) in (
-            rw (h, k, q, a .0, b .0) refl,
-            (λ u. put-done write new₀ new′ 0 _ (a .1) u, λ u. rw q (put-done write free₀ free′ 0 _ (b .1) u)),
-          )
+      module _ (k : clear start (start + count) all ≡ true) where
+        pub told-owners : fitIf up start (start + count) all ≡ false → Told up write list all start count new₀ free₀ (released.Refused why.Owners) new′ free′
+        unfolding passOutcome
+        told-owners o = (rw (h, k, o) refl, (λ u. never _ (ask .owners u) o, λ u. never _ (ask .owners (ask .listed u)) o))
+
+        pub told-done : (n m : ℕ) → AllStorable refcounts all → fitIf up start (start + count) all ≡ true
+            → (n ≡ length (C (joinAll (changeAll up start (start + count) start all)))) × (new′ ≡ putIf write new₀ 0 (C (joinAll (changeAll up start (start + count) start all))))
+            → (m ≡ length (bytesOf freeExtents (gaps start (start + count) all))) × (free′ ≡ putIf list free₀ 0 (bytesOf freeExtents (gaps start (start + count) all)))
+            → Told up write list all start count new₀ free₀ (released.Done (record { counts = n; free = m })) new′ free′
+        unfolding passOutcome
+        told-done n m st o a b =
+            let facts = accepted-facts all st h in
+            let p = edited-is up start (start + count) all (omega arith) facts o in
+            let q = unshared-gaps all start count facts (ask .end) in (
+              rw (h, k, o, p, q, a .0, b .0) refl,
+              (λ u. rw p (put-done write new₀ new′ 0 _ (a .1) u), λ u. rw q (put-done list free₀ free′ 0 _ (b .1) u)),
+            )
+
+-- ---- what the pass asks, of each step
+
+module _ (l : List Refcount) (start count room freeRoom : ℕ) where
+  -- the first step writes nothing
+  pub asks-measured : (up : Bool) → start + count ≤ 2 ^ 31 → Passable up l start count false false room freeRoom
+  asks-measured up h = record { end = h; listed = λ u. u; accepted = no; clear = no; owners = no; counts = no; free = no }
+
+  pub asks-release : Writable l start count room freeRoom → Passable false l start count true true room freeRoom
+  asks-release h = record { end = h .end; listed = λ u. u; accepted = λ u. h .accepted; clear = λ u. h .clear; owners = λ u. refl; counts = λ u. h .counts; free = λ u. h .free }
+
+  pub asks-raise : Raisable l start count room → Passable true l start count true false room freeRoom
+  asks-raise h = record { end = h .end; listed = no; accepted = λ u. h .accepted; clear = λ u. h .clear; owners = λ u. h .owners; counts = λ u. h .counts; free = no }
 
 -- ---- the next record of the counts b
 
-module _ (write : Bool) (b : List ℕ) (start count : ℕ) (new₀ free₀ new free : List ℕ) (w : Walk) (ask : Passable (recordsOf refcounts b) start count write (length new₀) (length free₀))
+module _ (up write list : Bool) (b : List ℕ) (start count : ℕ) (new₀ free₀ new free : List ℕ) (w : Walk) (ask : Passable up (recordsOf refcounts b) start count write list (length new₀) (length free₀))
     (bytes : IsBytes b) (i : ℕ) (r : Refcount) (inside : i < length b / 12) (read : r ≡ refcounts .decode (bytesAt b (i * 12) 12))
-    (walking : Walking write (recordsOf refcounts b) start (start + count) new₀ free₀ new free w (drop i (recordsOf refcounts b)))
+    (walking : Walking up write list (recordsOf refcounts b) start (start + count) new₀ free₀ new free w (drop i (recordsOf refcounts b)))
     (g : good r ≡ true) (f : follows (w .prev) r ≡ true) where
-  pub next-asks : StepAsks write start (start + count) w r (length new) (length free)
+  pub next-asks : StepAsks up write list start (start + count) w r (length new) (length free)
   next-asks =
       let fit = small b i r inside read bytes in
-      step-asks write (recordsOf refcounts b) start (start + count) new₀ free₀ new free w (rooms-of write (recordsOf refcounts b) start count new₀ free₀ ask (storable b bytes))
+      step-asks up write list (recordsOf refcounts b) start (start + count) new₀ free₀ new free w (rooms-of up write list (recordsOf refcounts b) start count new₀ free₀ ask (storable b bytes))
       r (drop i (recordsOf refcounts b)) (drop (i + 1) (recordsOf refcounts b)) (next b i r inside read) walking (fit .0) (fit .1) g f
 
-  pub next-walking : (k : Walk) (new′ free′ : List ℕ) → length new′ ≡ length new → length free′ ≡ length free → Stepped write start (start + count) w r new free k new′ free′
-      → Walking write (recordsOf refcounts b) start (start + count) new₀ free₀ new′ free′ k (drop (i + 1) (recordsOf refcounts b))
+  pub next-walking : (k : Walk) (new′ free′ : List ℕ) → length new′ ≡ length new → length free′ ≡ length free → Stepped up write list start (start + count) w r new free k new′ free′
+      → Walking up write list (recordsOf refcounts b) start (start + count) new₀ free₀ new′ free′ k (drop (i + 1) (recordsOf refcounts b))
   next-walking =
       let fit = small b i r inside read bytes in
-      walking-step write (recordsOf refcounts b) start (start + count) new₀ free₀ new free w (rooms-of write (recordsOf refcounts b) start count new₀ free₀ ask (storable b bytes))
+      walking-step up write list (recordsOf refcounts b) start (start + count) new₀ free₀ new free w (rooms-of up write list (recordsOf refcounts b) start count new₀ free₀ ask (storable b bytes))
       r (drop i (recordsOf refcounts b)) (drop (i + 1) (recordsOf refcounts b)) (next b i r inside read) walking (fit .0) (fit .1) g f

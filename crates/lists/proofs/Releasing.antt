@@ -36,7 +36,7 @@ module _ (b : List ℕ) (start count : ℕ) where
   unfolding measureOutcome whole
   measure-length h = rw (ne-eqb (length b % 12) 0 h) refl
 
-  pub measure-pass : (o : Outcome Lengths) → length b % 12 ≡ 0 → goodExtent start count ≡ true → o ≡ lengthsOf (passOutcome l start count) → o ≡ lengthsOf (measureOutcome b start count)
+  pub measure-pass : (o : Outcome Lengths) → length b % 12 ≡ 0 → goodExtent start count ≡ true → o ≡ lengthsOf (passOutcome false l start count) → o ≡ lengthsOf (measureOutcome b start count)
   unfolding measureOutcome passOutcome whole
   measure-pass o h g e = e ∙ rw (eq-eqb (length b % 12) 0 h, g) refl
 

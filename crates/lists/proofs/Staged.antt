@@ -1,6 +1,6 @@
--- The test of one staging record, and the goodness of an extent, exit by exit.
+-- The tests of one staging record and of one record's owners, and the goodness of an extent, exit by exit.
 -- Assumes nothing.
-use Prim.Native.Nat.{ℕ, _+_, _^_, _≤_, _<_}
+use Prim.Native.Nat.{ℕ, _+_, _-_, _^_, _≤_, _<_}
 use native.Mathlib.Omega.{arith}
 use mathlib.Core.Path.{_≡_, refl, sym}
 use mathlib.Core.Bool.{Bool, true, false, not, _&&_, and-false}
@@ -9,6 +9,8 @@ use borrow.Author.Tests.{lt-ltb, le-ltb, le-leb, lt-leb}
 use Rattle.codec.specs.Refcounts.{staging, block, end}
 use Rattle.codec.specs.declared.refcount.Refcount.{Refcount}
 use Rattle.lists.specs.Extent.{goodExtent}
+use Rattle.lists.specs.Release.{stop}
+use Rattle.lists.specs.Raise.{full}
 use Rattle.lists.proofs.Cases.{tests, conj}
 
 module _ (r : Refcount) (s e : ℕ) where
@@ -22,6 +24,15 @@ module _ (r : Refcount) (s e : ℕ) where
   pub staged-end : 2 ^ 31 ≤ r .startblock → block r < e → ltb s (end r) ≡ (staging r && (ltb (block r) e && ltb s (end r)))
   unfolding staging
   staged-end h k = rw (le-leb (2 ^ 31) (r .startblock) h, lt-ltb (block r) e k) refl
+
+module _ (r : Refcount) (s e : ℕ) where
+  pub full-not : r .refcount < 2 ^ 32 - 1 → false ≡ full s e r
+  unfolding full
+  full-not h = rw (lt-leb (2 ^ 32 - 1) (r .refcount) h) refl
+
+  pub full-by : 2 ^ 32 - 1 ≤ r .refcount → (ltb s (stop r) && ltb (r .startblock) e) ≡ full s e r
+  unfolding full
+  full-by h = rw (le-leb (2 ^ 32 - 1) (r .refcount) h) refl
 
 pub clear-met : (c t : Bool) → t ≡ true → false ≡ (c && not t)
 clear-met c t h = rw h (sym (and-false c))

@@ -1,4 +1,4 @@
--- Laws of runs of records that a release leaves as they are.
+-- Laws of runs of records that an edit leaves as they are.
 -- Assumes nothing.
 use Prim.Native.Nat.{ℕ, _+_, _-_, _*_, _/_, _^_, _≤_, _<_, min, max}
 use native.Mathlib.Omega.{arith}
@@ -18,15 +18,16 @@ use Rattle.codec.proofs.RecordLists.{length-bytesOf, bytesOf-append, length-rec
 use Rattle.codec.proofs.RecordKinds.{refcounts-lawful}
 use Rattle.lists.specs.declared.join.Joiner.{Joiner}
 use Rattle.lists.specs.declared.pass.Walk.{Walk}
-use Rattle.lists.specs.Release.{stop, lowered}
-use Rattle.lists.specs.Passes.{putIf, pending, goesOn, share, Room, Pushed, StepAsks, Stepped}
+use Rattle.lists.specs.Release.{stop}
+use Rattle.lists.specs.Raise.{full}
+use Rattle.lists.specs.Passes.{putIf, pending, goesOn, fresh, share, changed, changedFrom, Room, Cut, Pushed, StepAsks, Stepped}
 use Rattle.lists.specs.Steps.{Passable}
 use Rattle.lists.specs.Staying.{Stays, AllStay, part, behind, Unchanged, gone, goneBy, GoneAsks, Gone}
 use Rattle.lists.proofs.Cases.{split, tests}
 use Rattle.lists.proofs.Places.{follows-place, follows-least}
 use Rattle.lists.proofs.Staged.{unstaged, clear-on}
 use Rattle.lists.proofs.Puts.{put-put, length-put}
-use Rattle.lists.proofs.CountJoins.{pending-some, pending-room, push-next, asks-whole, whole-pushed, meets-not}
+use Rattle.lists.proofs.CountJoins.{pending-some, pending-room, room-for, share-none, push-next, whole-pushed, meets-not}
 use Rattle.lists.proofs.FreeRuns.{run-none}
 use Rattle.lists.proofs.Writing.{run-bytes}
 use Rattle.lists.proofs.Passing.{next, storable, Passed, Walking, Rooms, step-asks, walking-step, rooms-of}
@@ -92,9 +93,6 @@ module _ (l : List Refcount) (i z n s high : ℕ) where
 
 -- ---- one record that stays
 
-pub no : {P : Type 0} → false ≡ true → P
-no e = absurd (let y : _≡_ {A = ℕ} 0 1 = cc in omega arith)
-
 stays-good : (z n s high : ℕ) (r : Refcount) → Stays z n s high r → good r ≡ true
 unfolding good staging
 stays-good z n s high r t =
@@ -141,8 +139,8 @@ stops-rise : (l : List Refcount) (r : Refcount) (z n s high : ℕ) → AllStay z
 stops-rise [] r z n s high t = omega (arith, t .0 .after)
 stops-rise (x ∷ l) r z n s high t = omega (arith, t .0 .after, stops-rise l r (stop x) (x .refcount) s high (t .1))
 
-module _ (write : Bool) (all : List Refcount) (s e : ℕ) (new₀ free₀ : List ℕ) (free : List ℕ) (rooms : Rooms write all s e (length new₀) (length free₀)) (high : ℕ) where
-  module _ (new : List ℕ) (w : Walk) (r : Refcount) (m : List Refcount) (walking : Walking write all s e new₀ free₀ new free w (r ∷ m))
+module _ (up write list : Bool) (all : List Refcount) (s e : ℕ) (new₀ free₀ : List ℕ) (free : List ℕ) (rooms : Rooms up write list all s e (length new₀) (length free₀)) (high : ℕ) where
+  module _ (new : List ℕ) (w : Walk) (r : Refcount) (m : List Refcount) (walking : Walking up write list all s e new₀ free₀ new free w (r ∷ m))
       (ahead : Ahead e high (w .gap)) (t : Stays (stop (w .prev)) (w .joiner .owners) s high r) where
     small : r .startblock < 2 ^ 32
     small = omega (arith, t .end)
@@ -153,8 +151,8 @@ module _ (write : Bool) (all : List Refcount) (s e : ℕ) (new₀ free₀ : List
     is-after : follows (w .prev) r ≡ true
     is-after = stays-follows (w .prev) r (walking .prev) small (t .after)
 
-    asks : StepAsks write s e w r (length new) (length free)
-    asks = step-asks write all s e new₀ free₀ new free w rooms r (r ∷ m) m refl walking small (t .few) is-good is-after
+    asks : StepAsks up write list s e w r (length new) (length free)
+    asks = step-asks up write list all s e new₀ free₀ new free w rooms r (r ∷ m) m refl walking small (t .few) is-good is-after
 
     unmet : (ltb s (stop r) && ltb (r .startblock) e) ≡ false
     unmet = ⊎-elim (λ h. sym (meets-not (r .startblock) (stop r) s e h)) (λ h. rw (le-ltb (r .startblock) e (omega (arith, ahead .0))) (and-false (ltb s (stop r)))) (t .off)
@@ -162,26 +160,47 @@ module _ (write : Bool) (all : List Refcount) (s e : ℕ) (new₀ free₀ : List
     no-run : min (r .startblock) e ≤ w .gap
     no-run = ⊎-elim (λ h. omega (arith, walking .low)) (λ h. omega (arith, ahead .1 (omega (arith, t .end)))) (t .off)
 
+    -- no block before r is filled
+    alone : changedFrom up s e (w .gap) r ≡ changed up s e r
+    alone = rw (share-none (w .gap) (min (r .startblock) e) (fresh up) no-run) refl
+
+    cut : Cut up write s e (w .joiner) r (length new)
+    cut =
+        record {
+          extent = asks .extent;
+          end = asks .end;
+          fits = asks .fits;
+          lies = asks .lies;
+          owned = asks .owned;
+          behind = asks .behind;
+          room = λ u. rw (← alone) (asks .counts u);
+        }
+
     room : Room write (w .joiner) (length new)
-    room = asks-whole write s e (w .joiner) r new (asks .cut) unmet .1 .1 .1
+    room = room-for write (w .joiner) (changed up s e r) (length new) (cut .room)
+
+    unfilled : full s e r ≡ false
+    unfolding full
+    unfilled = rw unmet (and-false (leb (2 ^ 32 - 1) (r .refcount)))
 
     pub roomy : write ≡ true → 0 < length (C (pending (w .joiner))) → w .joiner .at + length (C (pending (w .joiner))) ≤ length new
     roomy = pending-room write (w .joiner) (length new) room
 
-    pushed : Pushed write (w .joiner) new (lowered s e r) (stop r) (one w r .joiner) (putIf write new (w .joiner .at) (C (pending (w .joiner))))
+    pushed : Pushed write (w .joiner) new (changedFrom up s e (w .gap) r) (stop r) (one w r .joiner) (putIf write new (w .joiner .at) (C (pending (w .joiner))))
     pushed =
         let q : stop r - r .startblock ≡ r .blockcount = omega arith in
-        let c = asks .cut in
+        let c = cut in
         let at : ℕ = w .joiner .at + length (C (pending (w .joiner))) in
         let out : List ℕ = putIf write new (w .joiner .at) (C (pending (w .joiner))) in
-        whole-pushed write s e (w .joiner) r new c unmet _ _
+        rw alone
+        (whole-pushed up write s e (w .joiner) r new c unmet _ _
         (subst (λ (n : ℕ). Pushed write (w .joiner) new (share (r .startblock) (stop r) (r .refcount)) (stop r) (record { start = r .startblock; count = n; owners = r .refcount; at = at }) out) q
         (push-next write (w .joiner) (r .startblock) (stop r) (r .refcount) (omega (arith, t .some)) (c .owned) (c .lies) (c .fits) (c .behind) new out at room
-        (apart-goes (w .joiner) (stop (w .prev)) (r .startblock) (r .refcount) (walking .behind) (t .after) (t .apart)) refl refl))
+        (apart-goes (w .joiner) (stop (w .prev)) (r .startblock) (r .refcount) (walking .behind) (t .after) (t .apart)) refl refl)))
 
-    stepped : Stepped write s e w r new free (one w r) (putIf write new (w .joiner .at) (C (pending (w .joiner)))) free
+    stepped : Stepped up write list s e w r new free (one w r) (putIf write new (w .joiner .at) (C (pending (w .joiner)))) free
     stepped =
-        let f = run-none write free (w .free) (w .gap) (min (r .startblock) e) no-run in
+        let f = run-none list free (w .free) (w .gap) (min (r .startblock) e) no-run in
         record {
           prev = refl;
           joiner = pushed;
@@ -189,15 +208,16 @@ module _ (write : Bool) (all : List Refcount) (s e : ℕ) (new₀ free₀ : List
           place = f .0;
           bytes = f .1;
           clear = clear-on (w .clear) _ (sym (unstaged r s e (omega (arith, t .end, t .some))));
+          fit = clear-on (w .fit) _ unfilled;
         }
 
-    pub by-one : Walking write all s e new₀ free₀ (putIf write new (w .joiner .at) (C (pending (w .joiner)))) free (one w r) m
-    by-one = walking-step write all s e new₀ free₀ new free w rooms r (r ∷ m) m refl walking small (t .few) is-good is-after (one w r) _ free (length-put write new (w .joiner .at) _ roomy) refl stepped
+    pub by-one : Walking up write list all s e new₀ free₀ (putIf write new (w .joiner .at) (C (pending (w .joiner)))) free (one w r) m
+    by-one = walking-step up write list all s e new₀ free₀ new free w rooms r (r ∷ m) m refl walking small (t .few) is-good is-after (one w r) _ free (length-put write new (w .joiner .at) _ roomy) refl stepped
 
   -- behind the records l and then r
-  pub run-on : (l : List Refcount) (r : Refcount) (m : List Refcount) (new : List ℕ) (w : Walk) → Walking write all s e new₀ free₀ new free w (l ++ (r ∷ m))
+  pub run-on : (l : List Refcount) (r : Refcount) (m : List Refcount) (new : List ℕ) (w : Walk) → Walking up write list all s e new₀ free₀ new free w (l ++ (r ∷ m))
       → Ahead e high (w .gap) → AllStay (stop (w .prev)) (w .joiner .owners) s high (l ++ (r ∷ []))
-      → Walking write all s e new₀ free₀ (putIf write new (w .joiner .at) (C (pending (w .joiner) ++ l))) free (goneBy w l r) m
+      → Walking up write list all s e new₀ free₀ (putIf write new (w .joiner .at) (C (pending (w .joiner) ++ l))) free (goneBy w l r) m
   run-on [] r m new w walking ahead t = rw (append-nil (pending (w .joiner))) (by-one new w r m walking ahead (t .0))
   run-on (x ∷ l) r m new w walking ahead t =
       let step = by-one new w x (l ++ (r ∷ m)) walking ahead (t .0) in
@@ -212,9 +232,9 @@ module _ (write : Bool) (all : List Refcount) (s e : ℕ) (new₀ free₀ : List
       ap (λ (p : List Refcount). putIf write out at (C p)) q
       ∙ put-put write new (w .joiner .at) at (C (pending (w .joiner))) (C (x ∷ l)) (roomy new w x (l ++ (r ∷ m)) walking ahead (t .0)) refl
       ∙ ap (putIf write new (w .joiner .at)) (sym (bytesOf-append refcounts refcounts-lawful (pending (w .joiner)) (x ∷ l))) in
-      subst (λ (o : List ℕ). Walking write all s e new₀ free₀ o free (goneBy w (x ∷ l) r) m) b
-      (subst (λ (n : ℕ). Walking write all s e new₀ free₀ (putIf write out at (C (pending (one w x .joiner) ++ l))) free (gone w r n (max (w .gap) (stop r))) m) a
-      (subst (λ (n : ℕ). Walking write all s e new₀ free₀ (putIf write out at (C (pending (one w x .joiner) ++ l))) free (gone w r (at + length (C (pending (one w x .joiner) ++ l))) n) m) g rest))
+      subst (λ (o : List ℕ). Walking up write list all s e new₀ free₀ o free (goneBy w (x ∷ l) r) m) b
+      (subst (λ (n : ℕ). Walking up write list all s e new₀ free₀ (putIf write out at (C (pending (one w x .joiner) ++ l))) free (gone w r n (max (w .gap) (stop r))) m) a
+      (subst (λ (n : ℕ). Walking up write list all s e new₀ free₀ (putIf write out at (C (pending (one w x .joiner) ++ l))) free (gone w r (at + length (C (pending (one w x .joiner) ++ l))) n) m) g rest))
 
 -- ---- the run as the pass goes by it
 
@@ -242,21 +262,21 @@ gone-some write w b i j new new₁ new₂ r at gap bytes some inside room read q
           ∙ ap (putIf write new (w .joiner .at)) (sym (bytesOf-append refcounts refcounts-lawful p f));
     })
 
-module _ (write : Bool) (b : List ℕ) (start count : ℕ) (new₀ free₀ new free : List ℕ) (w : Walk) (ask : Passable (recordsOf refcounts b) start count write (length new₀) (length free₀))
+module _ (up write list : Bool) (b : List ℕ) (start count : ℕ) (new₀ free₀ new free : List ℕ) (w : Walk) (ask : Passable up (recordsOf refcounts b) start count write list (length new₀) (length free₀))
     (bytes : IsBytes b) (i j : ℕ) (order : i ≤ j) (inside : j ≤ length b / 12)
-    (walking : Walking write (recordsOf refcounts b) start (start + count) new₀ free₀ new free w (drop i (recordsOf refcounts b)))
+    (walking : Walking up write list (recordsOf refcounts b) start (start + count) new₀ free₀ new free w (drop i (recordsOf refcounts b)))
     (stay : Unchanged start (start + count) w (part (recordsOf refcounts b) i j)) where
-  rooms : Rooms write (recordsOf refcounts b) start (start + count) (length new₀) (length free₀)
-  rooms = rooms-of write (recordsOf refcounts b) start count new₀ free₀ ask (storable b bytes)
+  rooms : Rooms up write list (recordsOf refcounts b) start (start + count) (length new₀) (length free₀)
+  rooms = rooms-of up write list (recordsOf refcounts b) start count new₀ free₀ ask (storable b bytes)
 
   went : (l : List Refcount) (r : Refcount) → part (recordsOf refcounts b) i j ≡ l ++ (r ∷ [])
-      → Walking write (recordsOf refcounts b) start (start + count) new₀ free₀ (putIf write new (w .joiner .at) (C (pending (w .joiner) ++ l))) free (goneBy w l r) (drop j (recordsOf refcounts b))
+      → Walking up write list (recordsOf refcounts b) start (start + count) new₀ free₀ (putIf write new (w .joiner .at) (C (pending (w .joiner) ++ l))) free (goneBy w l r) (drop j (recordsOf refcounts b))
   went l r q =
       let m : List Refcount = drop j (recordsOf refcounts b) in
-      let h : Walking write (recordsOf refcounts b) start (start + count) new₀ free₀ new free w (l ++ (r ∷ m)) =
+      let h : Walking up write list (recordsOf refcounts b) start (start + count) new₀ free₀ new free w (l ++ (r ∷ m)) =
       rw (part-rest (recordsOf refcounts b) i j order, q, append-assoc l (r ∷ []) m) at walking in
       let t : Unchanged start (start + count) w (l ++ (r ∷ [])) = rw q at stay in
-      run-on write (recordsOf refcounts b) start (start + count) new₀ free₀ free rooms (behind (w .gap) (start + count)) l r m new w h (behind-ahead (w .gap) (start + count) (rooms .end)) t
+      run-on up write list (recordsOf refcounts b) start (start + count) new₀ free₀ free rooms (behind (w .gap) (start + count)) l r m new w h (behind-ahead (w .gap) (start + count) (rooms .end)) t
 
   pub gone-asks : GoneAsks write w i j b (length new)
   gone-asks =
@@ -273,10 +293,10 @@ module _ (write : Bool) (b : List ℕ) (start count : ℕ) (new₀ free₀ new f
       }
 
   pub gone-on : (k : Walk) (new′ : List ℕ) → Gone write w (part (recordsOf refcounts b) i j) new k new′
-      → Walking write (recordsOf refcounts b) start (start + count) new₀ free₀ new′ free k (drop j (recordsOf refcounts b))
+      → Walking up write list (recordsOf refcounts b) start (start + count) new₀ free₀ new′ free k (drop j (recordsOf refcounts b))
   gone-on k new′ =
       ⊎-elim
-      (λ n. let h : Walking write (recordsOf refcounts b) start (start + count) new₀ free₀ new free w (drop j (recordsOf refcounts b)) =
+      (λ n. let h : Walking up write list (recordsOf refcounts b) start (start + count) new₀ free₀ new free w (drop j (recordsOf refcounts b)) =
       rw (part-rest (recordsOf refcounts b) i j order, n .0) at walking in
       rw (n .1, n .2) h)
       (λ g. rw (g .walk, g .bytes) (went (g .front) (g .last) (g .run)))

@@ -22,6 +22,8 @@ editNumber why.Overlap = 23
 editNumber why.Missing = 24
 editNumber why.Staging = 25
 editNumber why.Room = 26
+editNumber why.Unheld = 27
+editNumber why.Owners = 28
 
 abbrev pub editedOutcome : Edited → Outcome ℕ
 editedOutcome (edited.Done n) = done n

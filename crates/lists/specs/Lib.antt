@@ -1,8 +1,10 @@
 pub mod Extent
 pub mod RmapEdits
 pub mod Holders
+pub mod Held
 pub mod Release
 pub mod Edits
+pub mod Raise
 pub mod Answer
 pub mod RmapPlans
 pub mod Steps

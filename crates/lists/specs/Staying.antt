@@ -1,4 +1,4 @@
--- Runs of records that a release leaves as they are: which ones, and what going by them promises.
+-- Runs of records that an edit leaves as they are: which ones, and what going by them promises.
 -- Assumes nothing.
 use Prim.Native.Nat.{ℕ, _+_, _-_, _*_, _/_, _^_, _≤_, _<_, max}
 use mathlib.Core.Path.{_≡_}
@@ -51,6 +51,7 @@ gone w r at gap =
       gap = gap;
       free = w .free;
       clear = w .clear;
+      fit = w .fit;
     }
 
 -- the same behind the records l and then r

@@ -1,4 +1,4 @@
-// The counts with one owner fewer on an extent, adjacent equals joined, record by record.
+// The counts with one owner fewer or more on an extent, adjacent equals joined, record by record. `up` asks for one more.
 use codec::refcount::Refcount;
 use codec::refcount::encode;
 ghost use mathlib.Core.Path.{_≡_};
@@ -7,8 +7,8 @@ ghost use lib.Dec.{ltb};
 ghost use Prim.Native.Nat.{ℕ, _+_, _<_, _≤_, _^_, min, max};
 ghost use lib.ListN.{length};
 ghost use Rattle.codec.specs.Records.{Kind, bytesOf, refcounts};
-ghost use Rattle.lists.specs.Release.{stop, lowered};
-ghost use Rattle.lists.specs.Passes.{putIf, pending, goesOn, fewer, share, Lies, Fits, Room, Cut, Pushed};
+ghost use Rattle.lists.specs.Release.{stop};
+ghost use Rattle.lists.specs.Passes.{putIf, pending, goesOn, fewer, more, next, fresh, share, changed, Lies, Fits, Room, Cut, Pushed};
 
 // The record that waits for its successor, none if its count is 0; `at` is the place behind the finished ones.
 pub struct Joiner {
@@ -96,6 +96,26 @@ fn fewer(n: u64) -> u64
     n - 1
 }
 
+// One owner more, as long as a record can tell them.
+fn more(n: u64) -> u64
+    ensures { λ r. ⌜ r ≡ more n ⌝ }
+{
+    if 0xFFFF_FFFF <= n {
+        return n;
+    }
+    n + 1
+}
+
+// What becomes of n owners.
+fn next(up: bool, n: u64) -> u64
+    ensures { λ r. ⌜ r ≡ next up n ⌝ }
+{
+    if up {
+        return more(n);
+    }
+    fewer(n)
+}
+
 fn clamp(x: u64, low: u64, high: u64) -> u64
     requires { ⌜ low ≤ high ⌝ }
     ensures { λ r. ⌜ r ≡ max low (min x high) ⌝ }
@@ -110,7 +130,7 @@ fn clamp(x: u64, low: u64, high: u64) -> u64
 }
 
 // Does the record from `start` up to `end` meet the places from `s` up to `e`?
-fn meets(start: u64, end: u64, s: u64, e: u64) -> bool
+pub(crate) fn meets(start: u64, end: u64, s: u64, e: u64) -> bool
     ensures { λ t. ⌜ t ≡ (ltb s end && ltb start e) ⌝ }
 {
     if end <= s {
@@ -119,31 +139,56 @@ fn meets(start: u64, end: u64, s: u64, e: u64) -> bool
     start < e
 }
 
-// A record with one owner fewer from `s` up to `e`: what lies before that, that itself, and what lies after it.
-fn cut(j: Joiner, r: Refcount, s: u64, e: u64, new: &mut [u8], write: bool) -> Joiner
-    requires { ⌜ Cut write s e j r (length (now new)) ⌝ }
-    ensures { λ k. ⌜ Pushed write j (now (new .entry)) (lowered s e r) (stop r) k (now (new .exit)) ⌝ }
+// The places from `a` up to `z` that no record tells of: with one owner more they have 2.
+pub(crate) fn fill(j: Joiner, a: u64, z: u64, up: bool, new: &mut [u8], write: bool) -> Joiner
+    requires { ⌜ (z ≤ 2 ^ 31) × (j .start + j .count ≤ a) ⌝ }
+    requires { ⌜ Fits j ⌝ }
+    requires { ⌜ Room write j (length (now new)) ⌝ }
+    ensures { λ k. ⌜ Pushed write j (now (new .entry)) (share a z (fresh up)) (max (j .start + j .count) z) k (now (new .exit)) ⌝ }
+{
+    if !up {
+        return j;
+    }
+    if z <= a {
+        return j;
+    }
+    push(j, a, z, 2, new, write)
+}
+
+// A record that the places from `s` up to `e` meet: what lies before them, the owners changed there, and what lies after them.
+fn cut(j: Joiner, r: Refcount, s: u64, e: u64, up: bool, new: &mut [u8], write: bool) -> Joiner
+    requires { ⌜ Cut up write s e j r (length (now new)) ⌝ }
+    requires { ⌜ r .startblock < e ⌝ }
+    ensures { λ k. ⌜ Pushed write j (now (new .entry)) (changed up s e r) (stop r) k (now (new .exit)) ⌝ }
 {
     let start = r.startblock as u64;
     let owners = r.refcount as u64;
     let end = start + r.blockcount as u64;
     let a = clamp(s, start, end);
     let z = clamp(e, start, end);
-    let less = fewer(owners);
+    let then = next(up, owners);
     let front = push(j, start, a, owners, new, write);
-    let middle = push(front, a, z, less, new, write);
+    let middle = push(front, a, z, then, new, write);
     push(middle, z, end, owners, new, write)
 }
 
 // The next record: one that the extent does not meet stays whole.
-pub(crate) fn lower(j: Joiner, r: Refcount, s: u64, e: u64, new: &mut [u8], write: bool) -> Joiner
-    requires { ⌜ Cut write s e j r (length (now new)) ⌝ }
-    ensures { λ k. ⌜ Pushed write j (now (new .entry)) (lowered s e r) (stop r) k (now (new .exit)) ⌝ }
+pub(crate) fn change(
+    j: Joiner,
+    r: Refcount,
+    s: u64,
+    e: u64,
+    up: bool,
+    new: &mut [u8],
+    write: bool,
+) -> Joiner
+    requires { ⌜ Cut up write s e j r (length (now new)) ⌝ }
+    ensures { λ k. ⌜ Pushed write j (now (new .entry)) (changed up s e r) (stop r) k (now (new .exit)) ⌝ }
 {
     let start = r.startblock as u64;
     let end = start + r.blockcount as u64;
     if meets(start, end, s, e) {
-        return cut(j, r, s, e, new, write);
+        return cut(j, r, s, e, up, new, write);
     }
     push(j, start, end, r.refcount as u64, new, write)
 }

@@ -29,7 +29,7 @@ pub fn good_extent(startblock: u32, blockcount: u32) -> bool
 }
 
 // The refusal of an extent that is not good: 19 and 21 are asked before 22.
-fn refuse_extent(counts: &[u8], startblock: u32, blockcount: u32) -> Released
+pub(crate) fn refuse_extent(counts: &[u8], startblock: u32, blockcount: u32) -> Released
     requires { ⌜ goodExtent startblock blockcount ≡ false ⌝ }
     ensures { λ r. ⌜ releasedOutcome r ≡ lengthsOf (measureOutcome (now (counts .entry)) startblock blockcount) ⌝ }
 {
@@ -52,7 +52,16 @@ pub fn measure(counts: &[u8], startblock: u32, blockcount: u32) -> Released
     }
     let mut new = [0u8; 1];
     let mut free = [0u8; 1];
-    pass(counts, startblock, blockcount, &mut new, &mut free, false)
+    pass(
+        counts,
+        startblock,
+        blockcount,
+        false,
+        &mut new,
+        &mut free,
+        false,
+        false,
+    )
 }
 
 // The second step: writes both lists, where the questions of the first hold and both fit.
@@ -61,7 +70,7 @@ pub fn write(counts: &[u8], startblock: u32, blockcount: u32, new: &mut [u8], fr
     ensures counts { λ _. ⌜ now (new .exit) ≡ withBytes (now (new .entry)) 0 (bytesOf refcounts (release startblock (startblock + blockcount) (recordsOf refcounts (now (counts .entry))))) ⌝ }
     ensures extents { λ _. ⌜ now (free .exit) ≡ withBytes (now (free .entry)) 0 (bytesOf freeExtents (unshared (recordsOf refcounts (now (counts .entry))) startblock blockcount)) ⌝ }
 {
-    pass(counts, startblock, blockcount, new, free, true);
+    pass(counts, startblock, blockcount, false, new, free, true, true);
 }
 
 // Lets the blocks from `startblock` on go once: asks 19, 21, 22, 25 and 26, writes the new counts into `new` and the extents that are free

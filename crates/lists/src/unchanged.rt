@@ -1,4 +1,4 @@
-// Runs of shared counts that a release leaves as they are: found in one go, and copied as bytes.
+// Runs of shared counts that an edit leaves as they are: found in one go, and copied as bytes.
 use crate::copy::copy_if;
 use crate::gaps::larger;
 use crate::join::Joiner;
@@ -90,7 +90,7 @@ fn inside(place: u64, s: u64, e: u64) -> bool {
     place < e
 }
 
-// The end of a run of records that a release of `s` up to `e` leaves as they are, from number i on; i if there is none.
+// The end of a run of records that an edit of `s` up to `e` leaves as they are, from number i on; i if there is none.
 pub(crate) fn unchanged(w: Walk, counts: &[u8], i: usize, s: u64, e: u64) -> usize
     requires { ⌜ i ≤ length (now counts) / 12 ⌝ }
     ensures { λ j. ⌜ (i ≤ j) × (j ≤ length (now (counts .entry)) / 12) ⌝ }
@@ -133,5 +133,6 @@ pub(crate) fn go_by(w: Walk, counts: &[u8], i: usize, j: usize, new: &mut [u8], 
         gap: gap,
         free: w.free,
         clear: w.clear,
+        fit: w.fit,
     }
 }

@@ -20,6 +20,8 @@ fn edit_number(r: EditRefusal) -> u64 {
         EditRefusal::Missing => 24,
         EditRefusal::Staging => 25,
         EditRefusal::Room => 26,
+        EditRefusal::Unheld => 27,
+        EditRefusal::Owners => 28,
     }
 }
 

@@ -11,8 +11,8 @@ enum-known-edited c = search needs
 enum-known-edited-2 : tie.Need-enum-known-edited-2
 enum-known-edited-2 c = search needs
 
-edit-refusal-number-requires : tie.Need-edit-refusal-number-requires
-edit-refusal-number-requires c κs = search needs
+edit-number-requires : tie.Need-edit-number-requires
+edit-number-requires c κs = search needs
 
 returns : tie.Need-returns
 returns c = rw (c .before .edited .given .1) (record { number = refl; figures = refl })
@@ -23,4 +23,4 @@ returns-2 c = search needs
 pub edited-answer-spec : {M : Type 1} → statement M
 edited-answer-spec =
     tie.close
-    (tie.spec enum-known-edited enum-known-edited-2 edit-refusal-number-requires returns returns-2)
+    (tie.spec enum-known-edited enum-known-edited-2 edit-number-requires returns returns-2)

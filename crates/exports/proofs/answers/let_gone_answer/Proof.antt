@@ -11,8 +11,8 @@ enum-known-gone c = search needs
 enum-known-gone-2 : tie.Need-enum-known-gone-2
 enum-known-gone-2 c = search needs
 
-edit-refusal-number-requires : tie.Need-edit-refusal-number-requires
-edit-refusal-number-requires c κs = search needs
+edit-number-requires : tie.Need-edit-number-requires
+edit-number-requires c κs = search needs
 
 returns : tie.Need-returns
 returns c = rw (c .before .gone .given .1) (record { number = refl; figures = refl })
@@ -23,4 +23,4 @@ returns-2 c = search needs
 pub let-gone-answer-spec : {M : Type 1} → statement M
 let-gone-answer-spec =
     tie.close
-    (tie.spec enum-known-gone enum-known-gone-2 edit-refusal-number-requires returns returns-2)
+    (tie.spec enum-known-gone enum-known-gone-2 edit-number-requires returns returns-2)

@@ -11,8 +11,8 @@ enum-known-released c = search needs
 enum-known-released-2 : tie.Need-enum-known-released-2
 enum-known-released-2 c = search needs
 
-edit-refusal-number-requires : tie.Need-edit-refusal-number-requires
-edit-refusal-number-requires c κs = search needs
+edit-number-requires : tie.Need-edit-number-requires
+edit-number-requires c κs = search needs
 
 returns : tie.Need-returns
 returns c = rw (c .before .released .given .1) (record { number = refl; figures = refl })
@@ -26,6 +26,6 @@ released-answer-spec =
     (tie.spec
     enum-known-released
     enum-known-released-2
-    edit-refusal-number-requires
+    edit-number-requires
     returns
     returns-2)

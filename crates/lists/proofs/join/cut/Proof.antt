@@ -2,7 +2,7 @@
 -- Assumes nothing.
 use native.Mathlib.Omega.{arith}
 use denote.Ref.{now}
-use Rattle.lists.proofs.CountJoins.{asks-front, asks-middle, asks-behind, lowered-pushed}
+use Rattle.lists.proofs.CountJoins.{asks-front, asks-middle, asks-behind, changed-pushed}
 use borrow.Author.Needs.{needs}
 use Rattle.lists.proofs.join.cut.Statement.{statement}
 use Rattle.lists.proofs.join.cut.Tie as tie
@@ -25,33 +25,33 @@ clamp-requires c κs = search needs
 clamp-requires-2 : tie.Need-clamp-requires-2
 clamp-requires-2 c κs = search needs
 
-fewer-requires : tie.Need-fewer-requires
-fewer-requires c κs = search needs
+next-requires : tie.Need-next-requires
+next-requires c κs = search needs
 
 push-requires : tie.Need-push-requires
 push-requires c κs = let x = c .before .before .before .before .before .before .before .before .args in
     let a = c .before .before .before .clamp in
     let z = c .before .before .clamp2 in
-    let m = c .before .fewer in
-    asks-front (x .write) (x .s) (x .e) (x .j) (x .r) (now (x .new)) (c .before .before .before .before .before .before .before .before .pre) (a .result) (z .result) (m .result) (a .ensures) (z .ensures) (m .ensures)
+    let m = c .before .next in
+    asks-front (x .up) (x .write) (x .s) (x .e) (x .j) (x .r) (now (x .new)) (c .before .before .before .before .before .before .before .before .pre .0) (c .before .before .before .before .before .before .before .before .pre .1) (a .result) (z .result) (m .result) (a .ensures) (z .ensures) (m .ensures)
 
 push-requires-2 : tie.Need-push-requires-2
 push-requires-2 c κs = let x = c .before .before .before .before .before .before .before .before .before .before .before .before .args in
     let a = c .before .before .before .before .before .before .before .clamp in
     let z = c .before .before .before .before .before .before .clamp2 in
-    let m = c .before .before .before .before .before .fewer in
+    let m = c .before .before .before .before .before .next in
     let f = c .before .before .before .push in
-    asks-middle (x .write) (x .s) (x .e) (x .j) (x .r) (now (x .new)) (c .before .before .before .before .before .before .before .before .before .before .before .before .pre) (a .result) (z .result) (m .result) (a .ensures) (z .ensures) (m .ensures)
+    asks-middle (x .up) (x .write) (x .s) (x .e) (x .j) (x .r) (now (x .new)) (c .before .before .before .before .before .before .before .before .before .before .before .before .pre .0) (c .before .before .before .before .before .before .before .before .before .before .before .before .pre .1) (a .result) (z .result) (m .result) (a .ensures) (z .ensures) (m .ensures)
     (f .result) _ (f .ensures) (omega (arith, f .kept .1 .1 .1 .1 .0))
 
 push-requires-3 : tie.Need-push-requires-3
 push-requires-3 c κs = let x = c .before .before .before .before .before .before .before .before .before .before .before .before .before .before .before .before .args in
     let a = c .before .before .before .before .before .before .before .before .before .before .before .clamp in
     let z = c .before .before .before .before .before .before .before .before .before .before .clamp2 in
-    let m = c .before .before .before .before .before .before .before .before .before .fewer in
+    let m = c .before .before .before .before .before .before .before .before .before .next in
     let f = c .before .before .before .before .before .before .before .push in
     let g = c .before .before .before .push2 in
-    asks-behind (x .write) (x .s) (x .e) (x .j) (x .r) (now (x .new)) (c .before .before .before .before .before .before .before .before .before .before .before .before .before .before .before .before .pre) (a .result) (z .result) (m .result) (a .ensures) (z .ensures) (m .ensures)
+    asks-behind (x .up) (x .write) (x .s) (x .e) (x .j) (x .r) (now (x .new)) (c .before .before .before .before .before .before .before .before .before .before .before .before .before .before .before .before .pre .0) (c .before .before .before .before .before .before .before .before .before .before .before .before .before .before .before .before .pre .1) (a .result) (z .result) (m .result) (a .ensures) (z .ensures) (m .ensures)
     (f .result) _ (f .ensures) (omega (arith, f .kept .1 .1 .1 .1 .0))
     (g .result) _ (g .ensures) (omega (arith, g .kept .1 .1 .1 .1 .0))
 
@@ -62,11 +62,11 @@ returns : tie.Need-returns
 returns c = let x = c .before .before .before .before .before .before .before .before .before .before .before .before .before .before .before .before .before .before .before .args in
     let a = c .before .before .before .before .before .before .before .before .before .before .before .before .before .before .clamp in
     let z = c .before .before .before .before .before .before .before .before .before .before .before .before .before .clamp2 in
-    let m = c .before .before .before .before .before .before .before .before .before .before .before .before .fewer in
+    let m = c .before .before .before .before .before .before .before .before .before .before .before .before .next in
     let f = c .before .before .before .before .before .before .before .before .before .before .push in
     let g = c .before .before .before .before .before .before .push2 in
     let h = c .before .before .push3 in
-    lowered-pushed (x .write) (x .s) (x .e) (x .j) (x .r) (now (x .new)) (c .before .before .before .before .before .before .before .before .before .before .before .before .before .before .before .before .before .before .before .pre) (a .result) (z .result) (m .result) (a .ensures) (z .ensures) (m .ensures)
+    changed-pushed (x .up) (x .write) (x .s) (x .e) (x .j) (x .r) (now (x .new)) (c .before .before .before .before .before .before .before .before .before .before .before .before .before .before .before .before .before .before .before .pre .0) (c .before .before .before .before .before .before .before .before .before .before .before .before .before .before .before .before .before .before .before .pre .1) (a .result) (z .result) (m .result) (a .ensures) (z .ensures) (m .ensures)
     (f .result) _ (f .ensures) (omega (arith, f .kept .1 .1 .1 .1 .0))
     (g .result) _ (g .ensures) (omega (arith, g .kept .1 .1 .1 .1 .0))
     (h .result) _ (h .ensures)
@@ -81,7 +81,7 @@ cut-spec =
     add-end
     clamp-requires
     clamp-requires-2
-    fewer-requires
+    next-requires
     push-requires
     push-requires-2
     push-requires-3

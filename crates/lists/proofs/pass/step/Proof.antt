@@ -6,12 +6,16 @@ use denote.Ref.{now}
 use lib.ListN.{length}
 use Rattle.codec.specs.Records.{bytesOf, freeExtents}
 use Rattle.lists.specs.Passes.{run, putIf}
+use Rattle.lists.proofs.Passing.{fill-before, cut-asks, filled-changed}
 use borrow.Author.Needs.{needs}
 use Rattle.lists.proofs.pass.step.Statement.{statement}
 use Rattle.lists.proofs.pass.step.Tie as tie
 
 stays-clear-requires : tie.Need-stays-clear-requires
 stays-clear-requires c κs = search needs
+
+stays-fit-requires : tie.Need-stays-fit-requires
+stays-fit-requires c κs = search needs
 
 cast-start : tie.Need-cast-start
 cast-start c = search needs
@@ -29,13 +33,21 @@ smaller-requires : tie.Need-smaller-requires
 smaller-requires c κs = search needs
 
 put-run-requires : tie.Need-put-run-requires
-put-run-requires c κs = let x = c .before .before .before .before .before .before .before .before .args in
-    let p = c .before .before .before .before .before .before .before .before .pre in
+put-run-requires c κs = let p = c .before .before .before .before .before .before .before .before .before .pre in
     let z = c .before .smaller in
     ((p .place, omega (arith, z .ensures, p .end)), λ u. rw (z .ensures) (p .room u))
 
-lower-requires : tie.Need-lower-requires
-lower-requires c κs = search needs
+fill-requires : tie.Need-fill-requires
+fill-requires c κs = let x = c .before .before .before .before .before .before .before .before .before .before .before .before .before .before .args in
+    let z = c .before .before .before .before .before .before .smaller in
+    fill-before (x .up) (x .write) (x .list) (x .s) (x .e) (x .w) (x .r) (now (x .new)) (length (now (x .free))) (c .before .before .before .before .before .before .before .before .before .before .before .before .before .before .pre) (z .result) (z .ensures)
+
+change-requires : tie.Need-change-requires
+change-requires c κs = let x = c .before .before .before .before .before .before .before .before .before .before .before .before .before .before .before .before .before .before .args in
+    let z = c .before .before .before .before .before .before .before .before .before .before .smaller in
+    let h = c .before .before .before .fill in
+    cut-asks (x .up) (x .write) (x .list) (x .s) (x .e) (x .w) (x .r) (now (x .new)) (length (now (x .free))) (c .before .before .before .before .before .before .before .before .before .before .before .before .before .before .before .before .before .before .pre) (z .result) (z .ensures)
+    (h .result) _ (omega (arith, h .kept .1 .1 .1 .1 .0)) (h .ensures)
 
 same-length : tie.Need-same-length
 same-length c = search needs
@@ -44,17 +56,21 @@ same-length-2 : tie.Need-same-length-2
 same-length-2 c = search needs
 
 returns : tie.Need-returns
-returns c = let x = c .before .before .before .before .before .before .before .before .before .before .before .before .before .before .before .before .args in
-    let z = c .before .before .before .before .before .before .before .before .before .smaller in
-    let f = c .before .before .before .before .before .before .before .put-run in
-    let h = c .before .before .lower in
+returns c = let x = c .before .before .before .before .before .before .before .before .before .before .before .before .before .before .before .before .before .before .before .before .before .args in
+    let z = c .before .before .before .before .before .before .before .before .before .before .before .before .before .smaller in
+    let f = c .before .before .before .before .before .before .before .before .before .before .before .put-run in
+    let h = c .before .before .before .before .before .before .fill in
+    let k = c .before .before .change in
     record {
       prev = refl;
-      joiner = h .ensures;
-      gap = c .before .before .before .before .before .before .before .before .before .before .larger .ensures;
+      joiner =
+          filled-changed (x .up) (x .write) (x .list) (x .s) (x .e) (x .w) (x .r) (now (x .new)) (length (now (x .free))) (c .before .before .before .before .before .before .before .before .before .before .before .before .before .before .before .before .before .before .before .before .before .pre) (z .result) (z .ensures)
+          (h .result) _ (omega (arith, h .kept .1 .1 .1 .1 .0)) (h .ensures) (k .result) _ (k .ensures);
+      gap = c .before .before .before .before .before .before .before .before .before .before .before .before .before .before .larger .ensures;
       place = rw (← z .ensures) (f .ensures .0);
       bytes = rw (← z .ensures) (f .ensures .1);
-      clear = c .before .before .before .before .before .before .before .before .before .before .before .before .before .stays-clear .ensures;
+      clear = c .before .before .before .before .before .before .before .before .before .before .before .before .before .before .before .before .before .before .stays-clear .ensures;
+      fit = c .before .before .before .before .before .before .before .before .before .before .before .before .before .before .before .before .before .stays-fit .ensures;
     }
 
 pub step-spec : {M : Type 1} → statement M
@@ -62,13 +78,15 @@ step-spec =
     tie.close
     (tie.spec
     stays-clear-requires
+    stays-fit-requires
     cast-start
     cast-end
     add-end
     larger-requires
     smaller-requires
     put-run-requires
-    lower-requires
+    fill-requires
+    change-requires
     same-length
     same-length-2
     returns)

@@ -1,13 +1,11 @@
 -- `lists::refcounts::measure` meets its contract.
 -- Assumes nothing.
-use Prim.Native.Nat.{ℕ, _+_, _^_, _≤_}
-use mathlib.Core.Path.{_≡_, sym, ap, _∙_}
-use mathlib.Core.Bool.{true, false}
-use native.Mathlib.Omega.{arith}
+use mathlib.Core.Path.{sym, _∙_}
+use mathlib.Core.Bool.{false}
 use denote.Ref.{now}
 use borrow.Author.Tests.{not-true, not-false}
-use Rattle.lists.specs.Extent.{goodExtent}
 use Rattle.lists.proofs.Staged.{good-end}
+use Rattle.lists.proofs.Passing.{asks-measured}
 use Rattle.lists.proofs.Releasing.{measure-length, measure-pass}
 use borrow.Author.Needs.{needs}
 use Rattle.lists.proofs.refcounts.measure.Statement.{statement}
@@ -33,7 +31,7 @@ slice-aggregate-pass-2 c = search needs
 
 pass-requires : tie.Need-pass-requires
 pass-requires c κs = let g = c .before .before .before .before .good-extent in
-    record { end = good-end _ _ (sym (g .ensures) ∙ not-false _ (c .before .before .before .if1 .left)); writable = λ u. absurd (let y : _≡_ {A = ℕ} 0 1 = cc in omega arith) }
+    asks-measured _ _ _ _ _ false (good-end _ _ (sym (g .ensures) ∙ not-false _ (c .before .before .before .if1 .left)))
 
 returns-3 : tie.Need-returns-3
 returns-3 c = let x = c .before .before .before .before .before .before .before .before .before .args in

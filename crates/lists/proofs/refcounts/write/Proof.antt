@@ -1,12 +1,13 @@
 -- `lists::refcounts::write` meets its contract.
 -- Assumes nothing.
 use mathlib.Core.Path.{refl}
+use Rattle.lists.proofs.Passing.{asks-release}
 use borrow.Author.Needs.{needs}
 use Rattle.lists.proofs.refcounts.write.Statement.{statement}
 use Rattle.lists.proofs.refcounts.write.Tie as tie
 
 pass-requires : tie.Need-pass-requires
-pass-requires c κs = let p = c .before .before .before .before .before .pre in record { end = p .end; writable = λ u. p }
+pass-requires c κs = asks-release _ _ _ _ _ (c .before .before .before .before .before .pre)
 
 same-length : tie.Need-same-length
 same-length c = search needs

@@ -4,7 +4,7 @@ use borrow.Author.Needs.{needs}
 use mathlib.Core.Logic.{inl, inr}
 use native.Mathlib.Omega.{arith}
 use borrow.Author.Tests.{leb-true}
-use Rattle.lists.proofs.Staying.{no}
+use Rattle.lists.proofs.Passing.{no}
 use Rattle.lists.proofs.unchanged.stays.Statement.{statement}
 use Rattle.lists.proofs.unchanged.stays.Tie as tie
 

@@ -1,0 +1,72 @@
+-- A release and a raise are the two cases of the change that a pass makes.
+-- Assumes nothing.
+use Prim.Native.Nat.{ℕ, _+_, _-_, _^_, _≤_, _<_, min, max}
+use native.Mathlib.Omega.{arith}
+use mathlib.Core.Path.{_≡_, refl, sym, ap, ap₂, _∙_}
+use mathlib.Core.Bool.{Bool, true, false, not, cond, _&&_}
+use mathlib.Core.List.{List, [], _∷_, _++_, append-assoc}
+use lib.Dec.{ltb, leb, eqb}
+use borrow.Author.Tests.{lt-ltb, le-leb, lt-leb, ne-eqb}
+use Rattle.codec.specs.declared.refcount.Refcount.{Refcount}
+use Rattle.lists.specs.Release.{stop, piece, middle, clamp, lowered, lowerAll, joinAll}
+use Rattle.lists.specs.Raise.{raised, raiseAll, full, ownersFit}
+use Rattle.lists.specs.Steps.{edited, fitIf}
+use Rattle.lists.specs.Passes.{fewer, more, next, fresh, share, changed, changeAll}
+use Rattle.lists.proofs.Cases.{split, tests, conj, not-false}
+use Rattle.lists.proofs.Counts.{From, Accepted}
+use Rattle.lists.proofs.CountJoins.{share-none, share-piece, more-some, piece-none, clamp-low, clamp-high}
+
+-- ---- a release
+
+share-middle : (a z n : ℕ) → middle a z n ≡ share a z (next false n)
+unfolding share next fewer middle
+share-middle a z n = split (leb n 2) (λ e. rw e refl) (λ e. rw (e, ne-eqb (n - 1) 0 (omega tests)) refl)
+
+lowered-is : (s e : ℕ) (r : Refcount) → lowered s e r ≡ changed false s e r
+unfolding lowered changed
+lowered-is s e r = rw (share-middle (clamp r s) (clamp r e) (r .refcount)) refl
+
+pub lowerAll-is : (s e gap : ℕ) (l : List Refcount) → lowerAll s e l ≡ changeAll false s e gap l
+unfolding lowerAll changeAll fresh share
+lowerAll-is s e gap [] = refl
+lowerAll-is s e gap (r ∷ l) = rw (lowered-is s e r, lowerAll-is s e (max gap (stop r)) l) refl
+
+-- ---- a raise
+
+share-raised : (a z n : ℕ) → n < 2 ^ 32 - 1 → piece a z (n + 1) ≡ share a z (next true n)
+unfolding next
+share-raised a z n h = rw (← more-some n h) (sym (share-piece a z (n + 1) (omega arith)))
+
+raised-middle : (s e : ℕ) (r : Refcount) → s ≤ e → full s e r ≡ false → piece (clamp r s) (clamp r e) (r .refcount + 1) ≡ share (clamp r s) (clamp r e) (next true (r .refcount))
+unfolding full
+raised-middle s e r h f =
+    split (leb (2 ^ 32 - 1) (r .refcount))
+    (λ g. split (ltb s (stop r))
+    (λ u. let v : ltb (r .startblock) e ≡ false = rw (g, u) at f in
+    rw (clamp-low r s (omega tests), clamp-low r e (omega tests), piece-none (r .startblock) (r .refcount + 1), share-none (r .startblock) (r .startblock) (next true (r .refcount)) (omega arith)) refl)
+    (λ u. rw (clamp-high r s (omega tests), clamp-high r e (omega tests), piece-none (stop r) (r .refcount + 1), share-none (stop r) (stop r) (next true (r .refcount)) (omega arith)) refl))
+    (λ g. share-raised (clamp r s) (clamp r e) (r .refcount) (omega tests))
+
+clamp-same : (r : Refcount) (s a d : ℕ) → s ≤ a → a ≤ max s d → d ≤ r .startblock → clamp r a ≡ clamp r s
+unfolding clamp
+clamp-same r s a d h k p = omega arith
+
+raised-is : (s e : ℕ) (r : Refcount) (a : ℕ) → s ≤ e → clamp r a ≡ clamp r s → full s e r ≡ false → raised a e r ≡ changed true s e r
+unfolding raised changed
+raised-is s e r a h q f = rw (q, raised-middle s e r h f) refl
+
+-- a is s, or no record that is left starts before it
+pub raiseAll-is : (s e d a : ℕ) (l : List Refcount) → s ≤ e → s ≤ a → a ≤ max s d → From d l → ownersFit s e l ≡ true → raiseAll a e l ≡ changeAll true s e a l
+unfolding raiseAll changeAll ownersFit fresh share
+raiseAll-is s e d a [] h k p g o = refl
+raiseAll-is s e d a (r ∷ l) h k p g o =
+    let u : not (full s e r) ≡ true = search conj in
+    let v : ownersFit s e l ≡ true = search conj in
+    rw (raised-is s e r a h (clamp-same r s a d k p (g .1)) (not-false (full s e r) u), raiseAll-is s e (stop r) (max a (stop r)) l h (omega arith) (omega arith) (g .2) v)
+    (sym (append-assoc (piece a (min (r .startblock) e) 2) (changed true s e r) (changeAll true s e (max a (stop r)) l)))
+
+-- ---- either
+
+pub edited-is : (up : Bool) (s e : ℕ) (l : List Refcount) → s ≤ e → Accepted l → fitIf up s e l ≡ true → edited up s e l ≡ joinAll (changeAll up s e s l)
+edited-is true s e l h g o = ap joinAll (raiseAll-is s e 0 s l h (omega arith) (omega arith) g o)
+edited-is false s e l h g o = ap joinAll (lowerAll-is s e s l)
