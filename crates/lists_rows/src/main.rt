@@ -1,35 +1,21 @@
 // Edits of both lists, run: the answer, then each output in hexadecimal. eeeeeeee was not written.
 use codec::rmap::Rmap;
-use lists::EditRefusal;
 use lists::Edited;
 use lists::Released;
+use lists::edit_number;
 use lists::rmap_edits::insert;
 use lists::rmap_edits::insert_shared;
 use lists::rmap_edits::remove;
 use lists::rmap_plans::Edit;
-use show::lines::list_number;
 use show::lines::newline;
 use show::lines::number;
 use show::lines::words;
-
-fn edit_number(r: EditRefusal) -> u64 {
-    match r {
-        EditRefusal::List(l) => list_number(l),
-        EditRefusal::Extent => 22,
-        EditRefusal::Overlap => 23,
-        EditRefusal::Missing => 24,
-        EditRefusal::Staging => 25,
-        EditRefusal::Room => 26,
-        EditRefusal::Unheld => 27,
-        EditRefusal::Owners => 28,
-    }
-}
 
 fn answer(name: &[u8], r: Edited) {
     io::write_all(1, name);
     match r {
         Edited::Done(n) => number(b" done ", n as u64),
-        Edited::Refused(q) => number(b" refused ", edit_number(q)),
+        Edited::Refused(q) => number(b" refused ", edit_number(q) as u64),
     }
     newline();
 }
@@ -113,7 +99,7 @@ fn let_go(counts: &[u8], startblock: u32, blockcount: u32) {
             number(b"done ", lengths.counts as u64);
             number(b" ", lengths.free as u64);
         }
-        Released::Refused(why) => number(b"refused ", edit_number(why)),
+        Released::Refused(why) => number(b"refused ", edit_number(why) as u64),
     }
     newline();
     words(&new);
