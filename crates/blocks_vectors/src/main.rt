@@ -7,13 +7,22 @@ use blocks::geometry::AgBlock;
 use blocks::geometry::Geometry;
 use blocks::kind::TreeKind;
 use codec::endian::be64;
-use show::lines::newline;
-use show::lines::number;
 use show::lines::show_block_refusal;
 use show::samples::between;
 use show::samples::damage;
 use show::samples::fresh;
 use show::samples::geometry;
+
+// A name, and a number in decimal.
+fn number(name: &[u8], n: u64) {
+    io::write_all(1, name);
+    io::print_decimal(1, n);
+}
+
+// The end of a line.
+fn newline() {
+    io::write_all(1, b"\n");
+}
 
 fn show_good(h: Header) {
     number(b" good level ", h.level as u64);
@@ -26,7 +35,9 @@ fn show(name: &[u8], answer: Checked) {
     io::write_all(1, name);
     match answer {
         Checked::Good(h) => show_good(h),
-        Checked::Refused(r) => show_block_refusal(r),
+        Checked::Refused(r) => {
+            show_block_refusal(r);
+        }
     }
     newline();
 }

@@ -4,8 +4,17 @@ use codec::check::ListChecked;
 use codec::crc;
 use codec::endian;
 use show::lines::list_number;
-use show::lines::newline;
-use show::lines::number;
+
+// A name, and a number in decimal.
+fn number(name: &[u8], n: u64) {
+    io::write_all(1, name);
+    io::print_decimal(1, n);
+}
+
+// The end of a line.
+fn newline() {
+    io::write_all(1, b"\n");
+}
 
 fn line(name: &[u8], check: u32) {
     io::write_all(1, name);

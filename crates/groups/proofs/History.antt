@@ -1,12 +1,15 @@
 -- The history theorem: demand 3 of every list of takes and lets go.
 -- Assumes nothing.
 use Prim.Native.Nat.{ℕ, _+_, _<_}
+use mathlib.Core.Bool.{true}
 use mathlib.Core.Path.{_≡_, refl, ap, _∙_, subst}
 use mathlib.Core.List.{List, [], _∷_, _++_, append-assoc}
 use native.Mathlib.Omega.{arith}
 use lib.Dec.{ltb, eqb}
 use Rattle.codec.specs.Question.{Values, Outcome, done, refused, mapOutcome}
 use Rattle.codec.specs.Records.{recordsOf, bytesOf, AllStorable, RmapFits, rmaps, refcounts}
+use Rattle.codec.specs.Rmaps as rmap
+use Rattle.codec.specs.Refcounts as refcount
 use Rattle.codec.specs.declared.rmap.Rmap.{Rmap}
 use Rattle.codec.specs.declared.refcount.Refcount.{Refcount}
 use Rattle.blocks.specs.declared.kind.TreeKind.the-variants as kind
@@ -50,6 +53,19 @@ map-back = recordsOf-bytesOf rmaps rmaps-lawful
 counts-back : (c : List Refcount) → AllStorable refcounts c → recordsOf refcounts (bytesOf refcounts c) ≡ c
 counts-back = recordsOf-bytesOf refcounts refcounts-lawful
 
+-- two lists that are accepted and can be stored, as bytes
+accepted-lists : (m : List Rmap) (c : List Refcount) → AllStorable rmaps m → AllStorable refcounts c → rmap.accepted m ≡ true → refcount.accepted c ≡ true
+    → Accepted (record { map = bytesOf rmaps m; counts = bytesOf refcounts c })
+accepted-lists m c sm sc am ac =
+    record {
+      map-bytes = isBytes-bytesOf rmaps rmaps-lawful m;
+      counts-bytes = isBytes-bytesOf refcounts refcounts-lawful c;
+      map-whole = whole-bytesOf rmaps rmaps-lawful m;
+      map-order = rw (map-back m sm) am;
+      counts-whole = whole-bytesOf refcounts refcounts-lawful c;
+      counts-order = rw (counts-back c sc) ac;
+    }
+
 -- ---- a take, by any edit that adds one over the extent
 
 kept-take : (σ : Lists) (x : Rmap) (m : List Rmap) → Accepted σ → Agreeing σ → Taken x (recordsOf rmaps (σ .map)) m
@@ -87,15 +103,7 @@ kept-takeHeld σ x room countsRoom g h a f e =
     let q : recordsOf rmaps (bytesOf rmaps (g .map)) ≡ g .map = map-back (g .map) (p .stored) in
     let r : recordsOf refcounts (bytesOf refcounts (g .counts)) ≡ g .counts = counts-back (g .counts) (l .stored) in
     record {
-      accepted =
-          record {
-            map-bytes = isBytes-bytesOf rmaps rmaps-lawful (g .map);
-            counts-bytes = isBytes-bytesOf refcounts refcounts-lawful (g .counts);
-            map-whole = whole-bytesOf rmaps rmaps-lawful (g .map);
-            map-order = rw q (p .accepted);
-            counts-whole = whole-bytesOf refcounts refcounts-lawful (g .counts);
-            counts-order = rw r (l .accepted);
-          };
+      accepted = accepted-lists (g .map) (g .counts) (p .stored) (l .stored) (p .accepted) (l .accepted);
       agree =
           rw (q, r)
           (agree-raise m (g .map) c (x .startblock) (x .blockcount) (counts-facts σ h) a (g .counts)
@@ -119,15 +127,7 @@ kept-letGo σ x room countsRoom freeRoom g h a e =
     let r : recordsOf refcounts (bytesOf refcounts (g .counts)) ≡ g .counts = counts-back (g .counts) (l .stored) in
     let ok : C.Accepted c = counts-facts σ h in (
       record {
-        accepted =
-            record {
-              map-bytes = isBytes-bytesOf rmaps rmaps-lawful (g .map);
-              counts-bytes = isBytes-bytesOf refcounts refcounts-lawful (g .counts);
-              map-whole = whole-bytesOf rmaps rmaps-lawful (g .map);
-              map-order = rw q (p .accepted);
-              counts-whole = whole-bytesOf refcounts refcounts-lawful (g .counts);
-              counts-order = rw r (l .accepted);
-            };
+        accepted = accepted-lists (g .map) (g .counts) (p .stored) (l .stored) (p .accepted) (l .accepted);
         agree =
             rw (q, r)
             (agree-letGo m (g .map) c (x .startblock) (x .blockcount) ok a (g .counts)

@@ -7,9 +7,18 @@ use lists::rmap_edits::insert;
 use lists::rmap_edits::insert_shared;
 use lists::rmap_edits::remove;
 use lists::rmap_plans::Edit;
-use show::lines::newline;
-use show::lines::number;
 use show::lines::words;
+
+// A name, and a number in decimal.
+fn number(name: &[u8], n: u64) {
+    io::write_all(1, name);
+    io::print_decimal(1, n);
+}
+
+// The end of a line.
+fn newline() {
+    io::write_all(1, b"\n");
+}
 
 fn answer(name: &[u8], r: Edited) {
     io::write_all(1, name);

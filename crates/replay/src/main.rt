@@ -16,9 +16,14 @@ use exports::list_calls::kf_remove;
 use exports::tree_calls::kf_build;
 use exports::tree_calls::kf_plan;
 use exports::tree_calls::kf_walk;
-use show::lines;
 use show::places::all32;
 use show::places::all64;
+
+// A name, and a number in decimal.
+fn print_number(name: &[u8], n: u64) {
+    io::write_all(1, name);
+    io::print_decimal(1, n);
+}
 
 // Number i of some: each has 4 bytes.
 fn number(bytes: &[u8], i: usize) -> u32 {
@@ -498,9 +503,9 @@ fn next() -> u8 {
 }
 
 fn show(cases: u64, same: u64) {
-    lines::number(b"cases ", cases);
-    lines::number(b" same ", same);
-    lines::newline();
+    print_number(b"cases ", cases);
+    print_number(b" same ", same);
+    io::write_all(1, b"\n");
 }
 
 fn main() {

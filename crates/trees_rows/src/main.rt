@@ -10,8 +10,6 @@ use codec::endian::put_be32;
 use codec::rmap::Rmap;
 use codec::rmap::encode;
 use show::lines::list_number;
-use show::lines::newline;
-use show::lines::number;
 use show::lines::show_block_refusal;
 use show::lines::words;
 use show::places::all8;
@@ -29,6 +27,17 @@ use trees::plan::plan;
 use trees::walk::WalkRefusal;
 use trees::walk::Walked;
 use trees::walk::walk;
+
+// A name, and a number in decimal.
+fn number(name: &[u8], n: u64) {
+    io::write_all(1, name);
+    io::print_decimal(1, n);
+}
+
+// The end of a line.
+fn newline() {
+    io::write_all(1, b"\n");
+}
 
 fn either(first: bool, a: &[u8], b: &[u8]) {
     if first {
@@ -231,7 +240,9 @@ fn show_refusal(r: WalkRefusal) {
         WalkRefusal::Scratch => number(b" refused ", 12),
         WalkRefusal::Visits => number(b" refused ", 13),
         WalkRefusal::Outside => number(b" refused ", 14),
-        WalkRefusal::Block(b) => show_block_refusal(b),
+        WalkRefusal::Block(b) => {
+            show_block_refusal(b);
+        }
         WalkRefusal::Full => number(b" refused ", 15),
     }
 }
