@@ -99,7 +99,7 @@ pub record Left : Type 0 where
   pub lists : Lists
   pub free : List FreeExtent
 
--- a first take leaves the counts alone
+-- a first take leaves the counts alone; a take of held blocks and a let go change both lists
 abbrev pub took : Lists → List Rmap → Left
 took σ m = record { lists = record { map = bytesOf rmaps m; counts = σ .counts }; free = [] }
 
@@ -109,7 +109,7 @@ tookHeld g = record { lists = record { map = bytesOf rmaps (g .map); counts = by
 abbrev pub went : Gone → Left
 went g = record { lists = record { map = bytesOf rmaps (g .map); counts = bytesOf refcounts (g .counts) }; free = g .free }
 
--- each outcome is the one 01 defines
+-- each outcome is the one 01 defines, or 02 for a take of held blocks
 unfoldable pub step : Lists → Change → Outcome Left
 step σ (take x room) = mapOutcome (took σ) (insertOutcome (σ .map) x room)
 step σ (takeShared x room) = mapOutcome (took σ) (insertSharedOutcome (σ .map) x room)
