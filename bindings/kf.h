@@ -54,10 +54,15 @@ uint32_t kf_walk(KF_GEOMETRY, uint32_t kind, const uint8_t *image, size_t image_
 /* An extent taken or given up: the reverse map `old` is read and the new one written to `fresh` (19, 20, 22, 23 or 24, 26). A refusal
  * writes nothing, and bytes past the new list stay.
  * said: bytes of the new list, 0, 0, 0; refused: zeros. */
+
+/* A first take: 23 if any block of the extent is held. */
 uint32_t kf_insert(const uint8_t *old, size_t old_len, uint32_t startblock, uint32_t blockcount, uint64_t owner, uint64_t offset,
                    uint8_t *fresh, size_t fresh_len, uint64_t said[4]);
+/* A take of an extent whose blocks others may hold: 23 if a record clashes. It leaves the shared counts alone, which may then no longer agree
+ * with the reverse map: kf_take_held is the call for held blocks. */
 uint32_t kf_insert_shared(const uint8_t *old, size_t old_len, uint32_t startblock, uint32_t blockcount, uint64_t owner, uint64_t offset,
                           uint8_t *fresh, size_t fresh_len, uint64_t said[4]);
+/* An extent given up: 24 if no record of that owner contains it. */
 uint32_t kf_remove(const uint8_t *old, size_t old_len, uint32_t startblock, uint32_t blockcount, uint64_t owner, uint64_t offset,
                    uint8_t *fresh, size_t fresh_len, uint64_t said[4]);
 

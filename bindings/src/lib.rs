@@ -42,7 +42,8 @@
 //! | 19 | is the list's length a multiple of the record's? |
 //! | 20, 21 | is it an accepted reverse map? are they accepted shared counts? |
 //! | 22 | is the extent good? |
-//! | 23, 24 | is nothing in the way? does a record contain the extent? |
+//! | 23 | in a first take, is no block of the extent held? in a shared one, does no overlapping record clash? |
+//! | 24 | does a record of the extent's owner contain it? |
 //! | 25 | is it clear of staging records? |
 //! | 26 | do the new lists fit what was lent? |
 //! | 27 | in a take of held blocks, is every block held? |
@@ -511,9 +512,9 @@ fn edit(f: Edit, old: &[u8], x: &Rmap, new: &mut [u8]) -> Result<usize, Refusal>
     answer(n, &said, said[0] as usize)
 }
 
-/// Take an extent that nobody holds: the reverse map `old` with `x` in it goes
-/// to `new`, and its length in bytes comes back. Questions 19, 20, 22, 23 and
-/// 26.
+/// Take an extent of which no block is held: the reverse map `old` with `x` in
+/// it goes to `new`, and its length in bytes comes back. Questions 19, 20, 22,
+/// 23 and 26.
 ///
 /// ```
 /// use kf::{insert, Rmap};
@@ -525,12 +526,17 @@ fn edit(f: Edit, old: &[u8], x: &Rmap, new: &mut [u8]) -> Result<usize, Refusal>
 /// let both = Rmap { blockcount: 8, ..a };
 /// assert_eq!(new[..n], both.bytes());
 /// assert_eq!(insert(&a.bytes(), &a, &mut new).unwrap_err().number, 23);
+/// // An extent that would run into the next record is refused too.
+/// let early = Rmap { startblock: 2, owner: 9, ..a };
+/// assert_eq!(insert(&b.bytes(), &early, &mut new).unwrap_err().number, 23);
 /// ```
 pub fn insert(old: &[u8], x: &Rmap, new: &mut [u8]) -> Result<usize, Refusal> {
     edit(raw::kf_insert, old, x, new)
 }
 
-/// Take an extent that others may hold too. Questions 19, 20, 22, 23 and 26.
+/// Take an extent whose blocks others may hold. Questions 19, 20, 22, 23 and
+/// 26. The shared counts are left alone, and may then no longer agree with the
+/// reverse map: [`take_held`] is the call for held blocks.
 ///
 /// ```
 /// use kf::{insert_shared, Rmap};

@@ -82,6 +82,7 @@ extern "C" {
         new_len: usize,
         said: *mut [u64; 4],
     ) -> u32;
+    /// Leaves the counts alone; `kf_take_held` is the call for held blocks.
     pub fn kf_insert_shared(
         old: *const u8,
         old_len: usize,

@@ -66,7 +66,7 @@ fn raise(list: &[Count], s: u64, e: u64) -> Vec<Count> {
 }
 
 /// Both new lists, or the number of the first question that fails.
-fn want(map: &[u8], counts: &[u8], x: Rmap, room: [usize; 2]) -> Result<[Vec<u8>; 2], u32> {
+pub fn due(map: &[u8], counts: &[u8], x: Rmap, room: [usize; 2]) -> Result<[Vec<u8>; 2], u32> {
     let new_map = paper::insert_shared(map, x, usize::MAX);
     let of_map = new_map.number();
     let of_counts = paper::release(counts, 0, 1, usize::MAX, usize::MAX).number();
@@ -116,16 +116,20 @@ fn want(map: &[u8], counts: &[u8], x: Rmap, room: [usize; 2]) -> Result<[Vec<u8>
     Ok([new_map, new_counts])
 }
 
+/// Number, figures, and what both outputs begin with.
+pub fn said(due: Result<[Vec<u8>; 2], u32>) -> (u32, [u64; 4], [Vec<u8>; 2]) {
+    match due {
+        Err(n) => (n, [0; 4], [vec![], vec![]]),
+        Ok(new) => (0, [new[0].len() as u64, new[1].len() as u64, 0, 0], new),
+    }
+}
+
 fn one(map: &[u8], counts: &[u8], x: Rmap, room: [usize; 2], tally: &mut Tally) {
     let input = || format!("take_held {x:?} rooms {room:?} map {map:02x?} counts {counts:02x?}");
-    let due = want(map, counts, x, room);
+    let (number, figures, left) = said(due(map, counts, x, room));
     let mut lent = room.map(Lent::<u8>::new);
     let [a, b] = &mut lent;
     let got: Said = library::take_held(map, counts, x, a.part(), b.part());
-    let (number, figures, left) = match due {
-        Err(n) => (n, [0; 4], [vec![], vec![]]),
-        Ok(new) => (0, [new[0].len() as u64, new[1].len() as u64, 0, 0], new),
-    };
     if (got.number, got.figures) != (number, figures) {
         let library = format!("{} {:?}", got.number, got.figures);
         let definition = format!("{number} {figures:?}");
@@ -145,47 +149,53 @@ fn one(map: &[u8], counts: &[u8], x: Rmap, room: [usize; 2], tally: &mut Tally) 
     tally.add("take_held", got.number);
 }
 
+/// A reverse map, counts, an extent, and the bytes lent for both new lists.
+pub fn take(r: &mut Random) -> (Vec<u8>, Vec<u8>, Rmap, [usize; 2]) {
+    let list = lists::rmaps(r);
+    let mut map = bare::rmap_bytes(&list);
+    let mut c = if r.below(3) != 0 {
+        agreeing(&list)
+    } else {
+        lists::counts(r)
+    };
+    if r.below(10) == 0 {
+        let more = lists::counts(r);
+        c.extend(more.into_iter().filter(|c| c.start >= STAGING));
+    }
+    if r.below(8) == 0 {
+        if let Some(c) = c.iter_mut().find(|c| c.start < STAGING) {
+            c.owners = u32::MAX - r.below(2) as u32;
+        }
+    }
+    let mut counts = lists::count_bytes(&c);
+    match r.below(150) {
+        0 => map.push(0),
+        1 => counts.push(0),
+        _ => (),
+    }
+    let mut x = lists::extent(r, &list);
+    if r.below(2) == 0 {
+        // Another owner over a part of a record.
+        if let Some(&h) = list.get(r.below(list.len().max(1) as u64) as usize) {
+            x = Rmap {
+                owner: h.owner.wrapping_add(1 + r.below(3) as i64),
+                ..h
+            };
+        }
+    }
+    let exact = due(&map, &counts, x, [usize::MAX; 2])
+        .map_or([map.len(), counts.len()], |n| [n[0].len(), n[1].len()]);
+    let mut room = exact.map(|n| n + r.below(20) as usize);
+    if r.below(4) == 0 {
+        let i = r.below(2) as usize;
+        room[i] = rooms(r, exact[i]);
+    }
+    (map, counts, x, room)
+}
+
 pub fn takes(r: &mut Random, scale: u64, tally: &mut Tally) {
     for _ in 0..500_000 * scale {
-        let list = lists::rmaps(r);
-        let mut map = bare::rmap_bytes(&list);
-        let mut c = if r.below(3) != 0 {
-            agreeing(&list)
-        } else {
-            lists::counts(r)
-        };
-        if r.below(10) == 0 {
-            let more = lists::counts(r);
-            c.extend(more.into_iter().filter(|c| c.start >= STAGING));
-        }
-        if r.below(8) == 0 {
-            if let Some(c) = c.iter_mut().find(|c| c.start < STAGING) {
-                c.owners = u32::MAX - r.below(2) as u32;
-            }
-        }
-        let mut counts = lists::count_bytes(&c);
-        match r.below(150) {
-            0 => map.push(0),
-            1 => counts.push(0),
-            _ => (),
-        }
-        let mut x = lists::extent(r, &list);
-        if r.below(2) == 0 {
-            // Another owner over a part of a record.
-            if let Some(&h) = list.get(r.below(list.len().max(1) as u64) as usize) {
-                x = Rmap {
-                    owner: h.owner.wrapping_add(1 + r.below(3) as i64),
-                    ..h
-                };
-            }
-        }
-        let exact = want(&map, &counts, x, [usize::MAX; 2])
-            .map_or([map.len(), counts.len()], |n| [n[0].len(), n[1].len()]);
-        let mut room = exact.map(|n| n + r.below(20) as usize);
-        if r.below(4) == 0 {
-            let i = r.below(2) as usize;
-            room[i] = rooms(r, exact[i]);
-        }
+        let (map, counts, x, room) = take(r);
         one(&map, &counts, x, room, tally);
     }
 }

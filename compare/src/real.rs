@@ -5,7 +5,6 @@
 //! printed of them. The two group trees in scope are `rmap` and `refcount`. An
 //! `.ops` file is a history.
 
-use crate::edits::agreeing;
 use crate::library::{self, Edit};
 use crate::lists::{count_bytes, Count, STAGING};
 use oracle::rmap::{Rmap, OFF_ATTR_FORK, OFF_BMBT_BLOCK, OFF_UNWRITTEN};
@@ -147,12 +146,22 @@ struct Group {
 }
 
 impl Group {
-    fn take(&mut self, e: Edit, x: Rmap) {
+    fn take(&mut self, x: Rmap) {
         let mut new = vec![0; self.map.len() + 24];
-        let said = library::edit(e, &self.map, x, &mut new);
-        assert_eq!(said.number, 0, "{e:?} {x:?}");
+        let said = library::edit(Edit::Insert, &self.map, x, &mut new);
+        assert_eq!(said.number, 0, "insert {x:?}");
         new.truncate(said.figures[0] as usize);
         self.map = new;
+    }
+
+    fn share(&mut self, x: Rmap) {
+        let mut map = vec![0; self.map.len() + 24];
+        let mut counts = vec![0; 2 * self.counts.len() + 36];
+        let said = library::take_held(&self.map, &self.counts, x, &mut map, &mut counts);
+        assert_eq!(said.number, 0, "take_held {x:?}");
+        map.truncate(said.figures[0] as usize);
+        counts.truncate(said.figures[1] as usize);
+        (self.map, self.counts) = (map, counts);
     }
 
     fn go(&mut self, x: Rmap) {
@@ -171,9 +180,10 @@ impl Group {
     }
 }
 
-/// A history of a real volume: after every step the lists and the blocks freed
-/// are those of the volume. The counts of a take of held blocks, which the
-/// library does not raise, are made to agree with the map.
+/// A history of a real volume, of first takes, takes of held blocks and lets
+/// go: after every step the lists and the blocks freed are those of the
+/// volume. First takes go through `insert`, those too that the file calls
+/// `take_shared`.
 fn history(file: &str) {
     let text = fs::read_to_string(file).unwrap_or_else(|e| panic!("{file}: {e}"));
     let steps: Vec<&str> = text.split("step ").skip(1).collect();
@@ -193,12 +203,8 @@ fn history(file: &str) {
             changes += u32::from(w.len() == 5 && w[0] != "rmap");
             match w[0] {
                 "go" => g.go(extent()),
-                "take" => g.take(Edit::Insert, extent()),
-                "take_shared" => g.take(Edit::InsertShared, extent()),
-                "share" => {
-                    g.take(Edit::InsertShared, extent());
-                    g.counts = count_bytes(&agreeing(&bare::rmap_list(&g.map)));
-                }
+                "take" | "take_shared" => g.take(extent()),
+                "share" => g.share(extent()),
                 "free" => {
                     due.free.extend(number::<u32>(w[1]).to_be_bytes());
                     due.free.extend(number::<u32>(w[2]).to_be_bytes());

@@ -1,10 +1,11 @@
-//! Cases with the original's answers, for the program `replay`.
+//! Cases with the original's answers, or a definition's where it has no such
+//! call, for the program `replay`.
 //!
 //! A case is 32 numbers of 4 bytes, big-endian, then bytes:
 //!
 //! | number | |
 //! |---|---|
-//! | 0 | the call: 1 crc32c, 2 check_rmaps, 3 check_refcounts, 4 check_block, 5 plan, 6 build, 7 walk, 8 insert, 9 insert_shared, 10 remove, 11 release, 12 let_go, 13 a walk over blocks that are given one by one; 0 after the last case |
+//! | 0 | the call: 1 crc32c, 2 check_rmaps, 3 check_refcounts, 4 check_block, 5 plan, 6 build, 7 walk, 8 insert, 9 insert_shared, 10 remove, 11 release, 12 let_go, 13 a walk over blocks that are given one by one, 14 take_held; 0 after the last case |
 //! | 1 | the answer |
 //! | 2 to 9 | the four figures, high half first |
 //! | 10 to 13 | version, block size, agblocks, agno |
@@ -26,7 +27,8 @@
 //! image and its bytes.
 
 use crate::blocks;
-use crate::edits::expect;
+use crate::edits::{due, expect};
+use crate::held;
 use crate::library::{self, Edit};
 use crate::lists;
 use crate::real;
@@ -165,6 +167,7 @@ fn list_cases(r: &mut Random, cases: &mut Cases) {
 }
 
 fn edit_cases(r: &mut Random, cases: &mut Cases) {
+    let mut accepted = 0;
     for _ in 0..20_000 {
         let list = lists::rmaps(r);
         let mut old = bare::rmap_bytes(&list);
@@ -177,13 +180,19 @@ fn edit_cases(r: &mut Random, cases: &mut Cases) {
                 0 => r.below(old.len() as u64 + 25) as usize,
                 _ => old.len() + r.below(30) as usize,
             };
-            let o = match e {
-                Edit::Insert => paper::insert(&old, x, room),
-                Edit::InsertShared => paper::insert_shared(&old, x, room),
-                Edit::Remove => paper::remove(&old, x, room),
-            };
+            let o = due(e, &old, x, room);
             let said = expect(&o, |v| [v.len() as u64, 0, 0, 0]);
-            if cases.wants(call, said.0, if said.0 == 0 { 30 } else { 5 }) {
+            // Five more are refused by 23 that the original accepts.
+            let ahead = e == Edit::Insert
+                && said.0 == 23
+                && paper::insert(&old, x, room).number().is_none();
+            let most = match said.0 {
+                0 => 30,
+                _ if ahead => 10,
+                _ => 5,
+            };
+            if cases.wants(call, said.0, most) {
+                accepted += u32::from(ahead);
                 let new = o.accepted().unwrap_or_default();
                 let c = Case::new(call, said).extent(x).given(&old, &[]);
                 cases.add(c.output(0, room, &new));
@@ -236,6 +245,19 @@ fn edit_cases(r: &mut Random, cases: &mut Cases) {
                 c = c.output(i, room[i], &left[i]);
             }
             cases.add(c);
+        }
+    }
+    println!("inserts refused by 23 that the original accepts: {accepted}");
+}
+
+fn held_cases(r: &mut Random, cases: &mut Cases) {
+    for _ in 0..20_000 {
+        let (map, counts, x, room) = held::take(r);
+        let (number, figures, left) = held::said(held::due(&map, &counts, x, room));
+        if cases.wants(14, number, if number == 0 { 30 } else { 5 }) {
+            let c = Case::new(14, (number, figures)).extent(x);
+            let c = c.given(&map, &counts).output(0, room[0], &left[0]);
+            cases.add(c.output(1, room[1], &left[1]));
         }
     }
 }
@@ -393,6 +415,7 @@ pub fn sample(words: &[String]) {
     block_cases(&mut r, &mut cases);
     edit_cases(&mut r, &mut cases);
     tree_cases(&mut r, &mut cases);
+    held_cases(&mut r, &mut cases);
     real_cases(real, &mut cases);
     let mut out = Vec::new();
     for c in &cases.all {

@@ -22,7 +22,7 @@ use lists::rmap_edits::insert;
 use lists::rmap_edits::insert_shared;
 use lists::rmap_edits::remove;
 
-// Takes an extent: questions 19, 20, 22, 23 and 26. The figure of a new list is its bytes.
+// Takes an extent of which no block is held: questions 19, 20, 22, 23 and 26. The figure of a new list is its bytes.
 #[no_mangle]
 pub extern "C" fn kf_insert(
     old: &[u8],
@@ -43,7 +43,8 @@ pub extern "C" fn kf_insert(
     answer.number
 }
 
-// Takes an extent whose blocks others may hold: questions 19, 20, 22, 23 and 26.
+// Takes an extent whose blocks others may hold: questions 19, 20, 22, 23 and 26. The counts are left alone: kf_take_held is the call for held
+// blocks.
 #[no_mangle]
 pub extern "C" fn kf_insert_shared(
     old: &[u8],

@@ -1,83 +1,100 @@
--- What a history starts from, shown change by change; and a history that meets it: a take of free blocks, a let go of some of them, a refused let
--- go, and a take of what became free.
+-- A history in which blocks are shared, from lists that meet `Start`: a first take; a take of two of its blocks by another owner; a first take
+-- refused since one of its blocks is held; the first owner's let go, which frees only what the other does not hold; and the same let go again,
+-- refused.
 -- Assumes nothing.
 use Prim.Native.Nat.{ℕ, _+_, _<_}
 use mathlib.Core.Path.{_≡_, refl}
-use mathlib.Core.List.{List, [], _∷_, _++_}
+use mathlib.Core.List.{List, [], _∷_}
 use native.Mathlib.Omega.{arith}
 use Rattle.codec.specs.Bytes as bytes
+use Rattle.codec.specs.Question.{none, done, refused}
 use Rattle.codec.specs.Records as records
-use Rattle.codec.specs.Records.{bytesOf, RmapFits, rmaps}
+use Rattle.codec.specs.Records.{bytesOf, RmapFits, rmaps, refcounts}
 use Rattle.codec.specs.Accepted as accepted
 use Rattle.codec.specs.Rmaps as rmap
 use Rattle.codec.specs.Refcounts as refcount
 use Rattle.codec.specs.declared.rmap.Rmap.{Rmap}
+use Rattle.codec.specs.declared.refcount.Refcount.{Refcount}
+use Rattle.codec.specs.declared.free_extent.FreeExtent.{FreeExtent}
 use Rattle.lists.specs.Extent as blocks
-use Rattle.lists.specs.Extent.{over, within}
-use Rattle.lists.specs.Holders.{holders}
+use Rattle.lists.specs.Holders as holding
+use Rattle.lists.specs.Held as held
 use Rattle.lists.specs.RmapEdits as edits
 use Rattle.lists.specs.Release as release
+use Rattle.lists.specs.Raise as raise
 use Rattle.lists.specs.Edits.{insertOutcome}
-use Rattle.lists.proofs.Cases.{split, within-not, within-left, within-right, over-facts}
 use Rattle.groups.specs.LetGo.{letGoOutcome}
-use Rattle.groups.specs.History.{shared, Lists, Accepted, Agreeing, held, Change, take, letGo, extent, step, after, covered, firstTaken, taken, run, takes, letsGo, Held, Start}
-use Rattle.groups.proofs.History.{kept-step}
+use Rattle.groups.specs.TakeHeld.{takeHeldOutcome}
+use Rattle.groups.specs.History.{shared, Lists, Accepted, Agreeing, Change, take, takeHeld, letGo, step, after, run, Start, Claim}
+use Rattle.groups.proofs.History.{history}
 
--- ---- change by change
-
-abbrev pub Meets : Lists → List Change → Type 0
-Meets σ [] = Unit {0}
-Meets σ (c ∷ cs) = RmapFits (extent c) × ((b : ℕ) → 0 < firstTaken c (step σ c) b → held σ b ≡ 0) × Meets (after σ (step σ c)) cs
-
-meets-extents : (σ : Lists) (cs : List Change) → Meets σ cs → (before : List Change) (d : Change) (rest : List Change) → cs ≡ before ++ (d ∷ rest)
-    → RmapFits (extent d)
-meets-extents σ [] m [] d rest e = let z : _≡_ {A = ℕ} 0 1 = cc in absurd (omega arith)
-meets-extents σ [] m (p ∷ before) d rest e = let z : _≡_ {A = ℕ} 0 1 = cc in absurd (omega arith)
-meets-extents σ (c ∷ cs) m [] d rest e = let q : c ≡ d = cc in rw (← q) (m .0)
-meets-extents σ (c ∷ cs) m (p ∷ before) d rest e = meets-extents (after σ (step σ c)) cs (m .2) before d rest cc
-
-meets-fresh : (σ : Lists) (cs : List Change) → Accepted σ → Agreeing σ → Meets σ cs → (before : List Change) (d : Change) (rest : List Change)
-    → cs ≡ before ++ (d ∷ rest) → (b : ℕ) → 0 < firstTaken d (step (run σ before) d) b → Held σ before b → ⊥
-unfolding run takes letsGo
-meets-fresh σ [] h a m [] d rest e b u v = let z : _≡_ {A = ℕ} 0 1 = cc in omega arith
-meets-fresh σ [] h a m (p ∷ before) d rest e b u v = let z : _≡_ {A = ℕ} 0 1 = cc in omega arith
-meets-fresh σ (c ∷ cs) h a m [] d rest e b u v =
-    let q : d ≡ c = cc in let w : 0 < firstTaken c (step σ c) b = rw q at u in omega (arith, m .1 b w)
-meets-fresh σ (c ∷ cs) h a m (p ∷ before) d rest e b u v =
-    let q : p ≡ c = cc in
-    let t : cs ≡ before ++ (d ∷ rest) = cc in
-    let k = kept-step σ c h a (m .0) (m .1) in
-    let w : 0 < firstTaken d (step (run (after σ (step σ c)) before) d) b = rw q at u in
-    let y : Held σ (c ∷ before) b = rw q at v in
-    meets-fresh (after σ (step σ c)) cs (k .accepted) (k .agree) (m .2) before d rest t b w (omega (arith, k .sum b))
-
-pub meets-start : (σ : Lists) (cs : List Change) → Accepted σ → Agreeing σ → Meets σ cs → Start σ cs
-meets-start σ cs h a m =
-    record {
-      accepted = h;
-      agree = a;
-      extents = λ before d p. meets-extents σ cs m before d (p .rest) (p .stands);
-      fresh = λ before d p. meets-fresh σ cs h a m before d (p .rest) (p .stands);
-    }
-
--- ---- a history
-
-none-held : Lists
-none-held = record { map = []; counts = [] }
+-- ---- the changes
 
 -- start / count of an owner, at a file offset
-abbrev record-of : ℕ → ℕ → ℕ → ℕ → Rmap
+abbrev pub record-of : ℕ → ℕ → ℕ → ℕ → Rmap
 record-of s c owner at = record { startblock = s; blockcount = c; owner = owner; offset = at }
 
-changes : List Change
-changes = take (record-of 0 4 7 0) 1000 ∷ letGo (record-of 1 2 7 1) 1000 1000 1000 ∷ letGo (record-of 1 2 7 1) 1000 1000 1000 ∷ take (record-of 1 2 9 0) 1000 ∷ []
+-- start / count / owners
+abbrev pub counted : ℕ → ℕ → ℕ → Refcount
+counted s c n = record { startblock = s; blockcount = c; refcount = n }
 
--- the lists that they lead to
-changes-end : run none-held changes ≡ record { map = bytesOf rmaps (record-of 0 1 7 0 ∷ record-of 1 2 9 0 ∷ record-of 3 1 7 3 ∷ []); counts = [] }
-unfolding none-held changes run after step insertOutcome letGoOutcome bytes.beOf bytes.beBytes records.fieldsOf records.fieldBytes records.firstRecords records.recordsOf records.bytesOf accepted.whole accepted.inOrder rmap.reserved rmap.mapping rmap.exempt rmap.good rmap.keyOffset rmap.before rmap.follows refcount.staging refcount.good refcount.follows blocks.over blocks.within blocks.grow blocks.runs edits.first edits.isSome edits.replace edits.place edits.continues edits.clearAfter edits.clear edits.attach edits.insertAfter edits.insert edits.contains edits.linesUp edits.chosen edits.front edits.later edits.placeLater edits.cutOut release.owners release.clear release.lowerAll release.joinAll
-changes-end = refl
+abbrev pub free-at : ℕ → ℕ → FreeExtent
+free-at s c = record { startblock = s; blockcount = c }
 
-none-accepted : Accepted none-held
+pub small-fits : (s c owner at : ℕ) → s + (c + (owner + at)) < 100 → RmapFits (record-of s c owner at)
+small-fits s c owner at h = record { startblock = omega arith; blockcount = omega arith; owner = omega arith; offset = omega arith }
+
+-- 0/4 of owner 7
+abbrev pub first : Change
+first = take (record-of 0 4 7 0) (small-fits 0 4 7 0 (omega arith)) 1000
+
+-- 1/2 of owner 9 as well
+abbrev pub second : Change
+second = takeHeld (record-of 1 2 9 0) (small-fits 1 2 9 0 (omega arith)) 1000 1000
+
+-- 3/2 of owner 5: the last record that starts at or before it ends in time, and yet owner 7 holds block 3
+abbrev pub third : Change
+third = take (record-of 3 2 5 0) (small-fits 3 2 5 0 (omega arith)) 1000
+
+-- owner 7 lets all of 0/4 go, twice
+abbrev pub fourth : Change
+fourth = letGo (record-of 0 4 7 0) 1000 1000 1000
+
+abbrev pub sharing : List Change
+sharing = first ∷ second ∷ third ∷ fourth ∷ fourth ∷ []
+
+-- ---- the lists
+
+-- nothing is held
+unfoldable pub none-held : Lists
+none-held = record { map = []; counts = [] }
+
+-- the lists after the first, the second and the fourth change
+abbrev pub first-lists : Lists
+first-lists = record { map = bytesOf rmaps (record-of 0 4 7 0 ∷ []); counts = [] }
+
+abbrev pub shared-lists : Lists
+shared-lists = record { map = bytesOf rmaps (record-of 0 4 7 0 ∷ record-of 1 2 9 0 ∷ []); counts = bytesOf refcounts (counted 1 2 2 ∷ []) }
+
+abbrev pub last-lists : Lists
+last-lists = record { map = bytesOf rmaps (record-of 1 2 9 0 ∷ []); counts = [] }
+
+-- what each change comes to, and what all of them leave
+pub record Shares : Type 0 where
+  pub taken : step none-held first ≡ done (record { lists = first-lists; free = [] })
+  pub taken-held : step first-lists second ≡ done (record { lists = shared-lists; free = [] })
+  pub not-taken : step shared-lists third ≡ refused 23 none
+  pub let-go : step shared-lists fourth ≡ done (record { lists = last-lists; free = free-at 0 1 ∷ free-at 3 1 ∷ [] })
+  pub not-let-go : step last-lists fourth ≡ refused 24 none
+  pub left : run none-held sharing ≡ last-lists
+
+pub shares : Shares
+unfolding none-held run after step insertOutcome takeHeldOutcome letGoOutcome bytes.beOf bytes.beBytes records.fieldsOf records.fieldBytes records.firstRecords records.recordsOf records.bytesOf accepted.whole accepted.inOrder rmap.reserved rmap.mapping rmap.exempt rmap.good rmap.keyOffset rmap.before rmap.follows refcount.staging refcount.good refcount.follows blocks.over blocks.within blocks.grow blocks.runs holding.holders held.eachBlock edits.first edits.isSome edits.replace edits.place edits.continues edits.overlaps edits.attach edits.insertAfter edits.insert edits.clash edits.behind edits.ahead edits.contains edits.linesUp edits.chosen edits.front edits.later edits.placeLater edits.cutOut release.owners release.clear release.piece release.middle release.clamp release.lowered release.lowerAll release.continues release.joinFrom release.joinAll raise.raised raise.raiseAll raise.full raise.ownersFit
+shares = record { taken = refl; taken-held = refl; not-taken = refl; let-go = refl; not-let-go = refl; left = refl }
+
+-- ---- the premises are met, and so the claim
+
+pub none-accepted : Accepted none-held
 unfolding none-held records.recordsOf records.firstRecords accepted.whole accepted.inOrder
 none-accepted =
     record {
@@ -89,23 +106,9 @@ none-accepted =
       counts-order = refl;
     }
 
-none-agree : Agreeing none-held
-unfolding none-held records.recordsOf records.firstRecords shared holders
+pub none-agree : Agreeing none-held
+unfolding none-held records.recordsOf records.firstRecords shared holding.holders
 none-agree b n = (λ e. let z : _≡_ {A = ℕ} 0 1 = cc in (omega arith, omega arith), λ k. absurd (omega arith))
 
--- blocks 1 and 2 lie over no record then
-free-then : (b : ℕ) → 0 < within 1 2 1 b → within 0 1 1 b + (within 3 1 1 b + 0) ≡ 0
-free-then b h =
-    split (over 1 2 b)
-    (λ e. let k = over-facts 1 2 b e in omega (arith, within-right 0 1 1 b (omega arith), within-left 3 1 1 b (omega arith)))
-    (λ e. omega (arith, within-not 1 2 1 b e))
-
-changes-meet : Meets none-held changes
-unfolding none-held changes holders firstTaken taken covered after step insertOutcome letGoOutcome bytes.beOf bytes.beBytes records.fieldsOf records.fieldBytes records.firstRecords records.recordsOf records.bytesOf accepted.whole accepted.inOrder rmap.reserved rmap.mapping rmap.exempt rmap.good rmap.keyOffset rmap.before rmap.follows refcount.staging refcount.good refcount.follows edits.first edits.isSome edits.replace edits.place edits.continues edits.clearAfter edits.clear edits.attach edits.insertAfter edits.insert edits.contains edits.linesUp edits.chosen edits.front edits.later edits.placeLater edits.cutOut release.owners release.clear release.lowerAll release.joinAll blocks.grow blocks.runs
-changes-meet = (fit 0 4 7 0 (omega arith), λ b h. refl, (fit 1 2 7 1 (omega arith), λ b h. absurd (omega arith), (fit 1 2 7 1 (omega arith), λ b h. absurd (omega arith), (fit 1 2 9 0 (omega arith), free-then, tt))))
-  where
-    fit : (s c owner at : ℕ) → s + (c + (owner + at)) < 100 → RmapFits (record-of s c owner at)
-    fit s c owner at h = record { startblock = omega arith; blockcount = omega arith; owner = omega arith; offset = omega arith }
-
-changes-start : Start none-held changes
-changes-start = meets-start none-held changes none-accepted none-agree changes-meet
+pub sharing-claim : Claim none-held sharing
+sharing-claim = history none-held sharing (record { accepted = none-accepted; agree = none-agree })

@@ -3,9 +3,9 @@
 use Prim.Native.Nat.{ℕ, _+_, _<_}
 use mathlib.Core.Bool.{true}
 use mathlib.Core.Path.{_≡_, refl, ap, _∙_, subst}
-use mathlib.Core.List.{List, [], _∷_, _++_, append-assoc}
+use mathlib.Core.List.{List, [], _∷_, _++_}
 use native.Mathlib.Omega.{arith}
-use lib.Dec.{ltb, eqb}
+use lib.Dec.{eqb}
 use Rattle.codec.specs.Question.{Values, Outcome, done, refused, mapOutcome}
 use Rattle.codec.specs.Records.{recordsOf, bytesOf, AllStorable, RmapFits, rmaps, refcounts}
 use Rattle.codec.specs.Rmaps as rmap
@@ -17,13 +17,12 @@ use Rattle.codec.proofs.RecordLists.{recordsOf-bytesOf}
 use Rattle.codec.proofs.RecordKinds.{rmaps-lawful, refcounts-lawful}
 use Rattle.codec.proofs.ListBytes.{storable-recordsOf, isBytes-bytesOf, whole-bytesOf}
 use Rattle.lists.specs.Extent.{within, runs}
-use Rattle.lists.specs.Edits.{insertOutcome, insertSharedOutcome}
-use Rattle.lists.proofs.Cases.{split, tests}
+use Rattle.lists.specs.Edits.{insertOutcome}
 use Rattle.lists.proofs.Counts as C
-use Rattle.lists.proofs.Laws.{Taken, insert-law, insertShared-law}
+use Rattle.lists.proofs.Laws.{Taken, insert-law, insert-unheld}
 use Rattle.groups.specs.LetGo.{Gone, letGoOutcome}
 use Rattle.groups.specs.TakeHeld.{Both, takeHeldOutcome}
-use Rattle.groups.specs.History.{Lists, Accepted, Agreeing, held, Change, take, takeShared, takeHeld, letGo, extent, Left, took, tookHeld, went, step, after, covered, firstTaken, taken, gone, run, takes, letsGo, At, Start, EveryHistory}
+use Rattle.groups.specs.History.{Lists, Accepted, Agreeing, held, Change, take, takeHeld, letGo, Left, took, tookHeld, went, step, after, covered, taken, gone, run, takes, letsGo, Start, EveryHistory}
 use Rattle.groups.proofs.Agreement.{agree-letGo, agree-take, agree-raise, unshared-unheld}
 use Rattle.groups.proofs.Letting.{letGo-law}
 use Rattle.groups.proofs.TakingAll.{takeHeld-law}
@@ -147,14 +146,12 @@ from-done f (refused n v) w e = absurd (never e)
     never : refused n v ≡ done w → ⊥
     never e = let z : _≡_ {A = ℕ} 0 1 = cc in omega arith
 
--- a take of an extent, whatever it comes to
-took-kept : (σ : Lists) (x : Rmap) (o : Outcome (List Rmap)) → Accepted σ → Agreeing σ
-    → ((m : List Rmap) → o ≡ done m → Taken x (recordsOf rmaps (σ .map)) m)
-    → ((b : ℕ) → 0 < covered (mapOutcome (took σ) o) x b → held σ b ≡ 0)
+-- a first take of an extent, whatever it comes to
+took-kept : (σ : Lists) (x : Rmap) (room : ℕ) (o : Outcome (List Rmap)) → Accepted σ → Agreeing σ → RmapFits x → insertOutcome (σ .map) x room ≡ o
     → Kept σ (covered (mapOutcome (took σ) o) x) (λ b. 0) (after σ (mapOutcome (took σ) o))
 unfolding covered after
-took-kept σ x (done m) h a t f = kept-take σ x m h a (t m refl) f
-took-kept σ x (refused n v) h a t f = kept-same σ h a
+took-kept σ x room (done m) h a f e = kept-take σ x m h a (insert-law (σ .map) x room m (h .map-bytes) f e) (insert-unheld (σ .map) x room m e)
+took-kept σ x room (refused n v) h a f e = kept-same σ h a
 
 held-kept : (σ : Lists) (x : Rmap) (room countsRoom : ℕ) (o : Outcome Both) → Accepted σ → Agreeing σ → RmapFits x
     → takeHeldOutcome (σ .map) (σ .counts) x room countsRoom ≡ o
@@ -170,16 +167,12 @@ unfolding covered after
 went-kept σ x room countsRoom freeRoom (done g) h a e = kept-letGo σ x room countsRoom freeRoom g h a e .0
 went-kept σ x room countsRoom freeRoom (refused n v) h a e = kept-same σ h a
 
-pub kept-step : (σ : Lists) (c : Change) → Accepted σ → Agreeing σ → RmapFits (extent c) → ((b : ℕ) → 0 < firstTaken c (step σ c) b → held σ b ≡ 0)
-    → Kept σ (taken c (step σ c)) (gone c (step σ c)) (after σ (step σ c))
-unfolding step firstTaken taken gone
-kept-step σ (take x room) h a w f =
-    took-kept σ x (insertOutcome (σ .map) x room) h a (λ m e. insert-law (σ .map) x room m (h .map-bytes) w e) f
-kept-step σ (takeShared x room) h a w f =
-    took-kept σ x (insertSharedOutcome (σ .map) x room) h a (λ m e. insertShared-law (σ .map) x room m (h .map-bytes) w e) f
-kept-step σ (takeHeld x room countsRoom) h a w f =
-    held-kept σ x room countsRoom (takeHeldOutcome (σ .map) (σ .counts) x room countsRoom) h a w refl
-kept-step σ (letGo x room countsRoom freeRoom) h a w f =
+pub kept-step : (σ : Lists) (c : Change) → Accepted σ → Agreeing σ → Kept σ (taken c (step σ c)) (gone c (step σ c)) (after σ (step σ c))
+unfolding step taken gone
+kept-step σ (take x fits room) h a = took-kept σ x room (insertOutcome (σ .map) x room) h a fits refl
+kept-step σ (takeHeld x fits room countsRoom) h a =
+    held-kept σ x room countsRoom (takeHeldOutcome (σ .map) (σ .counts) x room countsRoom) h a fits refl
+kept-step σ (letGo x room countsRoom freeRoom) h a =
     went-kept σ x room countsRoom freeRoom (letGoOutcome (σ .map) (σ .counts) x room countsRoom freeRoom) h a refl
 
 -- what an accepted let go offers
@@ -194,53 +187,13 @@ step-offers σ x room countsRoom freeRoom h a w e =
 
 -- ---- the whole list
 
-at-later : (c : Change) (cs before : List Change) (d : Change) → At cs before d → At (c ∷ cs) (c ∷ before) d
-at-later c cs before d h = record { rest = h .rest; stands = ap (λ (l : List Change). c ∷ l) (h .stands) }
-
--- the changes of the first part of a list are changes of the list
-at-part : (cs before : List Change) (c : Change) → At cs before c → (b : List Change) (d : Change) → At before b d → At cs b d
-at-part cs before c h b d k =
-    record {
-      rest = k .rest ++ (c ∷ h .rest);
-      stands = h .stands ∙ ap (λ (l : List Change). l ++ (c ∷ h .rest)) (k .stands) ∙ append-assoc b (d ∷ k .rest) (c ∷ h .rest);
-    }
-
-pub start-part : (σ : Lists) (cs before : List Change) (c : Change) → Start σ cs → At cs before c → Start σ before
-start-part σ cs before c s h =
-    record {
-      accepted = s .accepted;
-      agree = s .agree;
-      extents = λ b d k. s .extents b d (at-part cs before c h b d k);
-      fresh = λ b d k. s .fresh b d (at-part cs before c h b d k);
-    }
-
--- the first change meets no held block
-fresh-first : (σ : Lists) (c : Change) (cs : List Change) → Start σ (c ∷ cs) → (b : ℕ) → 0 < firstTaken c (step σ c) b → held σ b ≡ 0
+pub kept-run : (σ : Lists) (cs : List Change) → Accepted σ → Agreeing σ → Kept σ (takes σ cs) (letsGo σ cs) (run σ cs)
 unfolding run takes letsGo
-fresh-first σ c cs s b u =
-    split (ltb 0 (held σ b))
-    (λ e. absurd (s .fresh [] c (record { rest = cs; stands = refl }) b u (omega tests)))
-    (λ e. omega tests)
-
--- and the rest is a history from what it left
-start-rest : (σ : Lists) (c : Change) (cs : List Change) → Start σ (c ∷ cs)
-    → Kept σ (taken c (step σ c)) (gone c (step σ c)) (after σ (step σ c)) → Start (after σ (step σ c)) cs
-unfolding run takes letsGo
-start-rest σ c cs s k =
-    record {
-      accepted = k .accepted;
-      agree = k .agree;
-      extents = λ before d h. s .extents (c ∷ before) d (at-later c cs before d h);
-      fresh = λ before d h b u v. s .fresh (c ∷ before) d (at-later c cs before d h) b u (omega (arith, k .sum b));
-    }
-
-pub kept-run : (σ : Lists) (cs : List Change) → Start σ cs → Kept σ (takes σ cs) (letsGo σ cs) (run σ cs)
-unfolding run takes letsGo
-kept-run σ [] s = kept-same σ (s .accepted) (s .agree)
-kept-run σ (c ∷ cs) s =
-    let k = kept-step σ c (s .accepted) (s .agree) (s .extents [] c (record { rest = cs; stands = refl })) (fresh-first σ c cs s) in
+kept-run σ [] h a = kept-same σ h a
+kept-run σ (c ∷ cs) h a =
+    let k = kept-step σ c h a in
     let τ : Lists = after σ (step σ c) in
-    kept-then σ τ (run τ cs) (taken c (step σ c)) (gone c (step σ c)) (takes τ cs) (letsGo τ cs) k (kept-run τ cs (start-rest σ c cs s k))
+    kept-then σ τ (run τ cs) (taken c (step σ c)) (gone c (step σ c)) (takes τ cs) (letsGo τ cs) k (kept-run τ cs (k .accepted) (k .agree))
 
 run-append : (σ : Lists) (cs ds : List Change) → run σ (cs ++ ds) ≡ run (run σ cs) ds
 unfolding run
@@ -256,14 +209,14 @@ refused-same σ before c n v e = run-append σ before (c ∷ []) ∙ ap (after (
 
 pub history : EveryHistory
 history σ cs s =
-    let k = kept-run σ cs s in
+    let k = kept-run σ cs (s .accepted) (s .agree) in
     record {
       sum = k .sum;
       accepted = k .accepted;
       agree = k .agree;
       refusals = λ before c h n v e. refused-same σ before c n v e;
       offers =
-          λ before x room countsRoom freeRoom h w e. let p = kept-run σ before (start-part σ cs before (letGo x room countsRoom freeRoom) s h) in
+          λ before x room countsRoom freeRoom h w e. let p = kept-run σ before (s .accepted) (s .agree) in
           step-offers (run σ before) x room countsRoom freeRoom (p .accepted) (p .agree) w e;
       map-returned = returned kind.Rmap (run σ cs .map) (k .accepted .map-bytes) (k .accepted .map-whole) (k .accepted .map-order);
       counts-returned = returned kind.Refcount (run σ cs .counts) (k .accepted .counts-bytes) (k .accepted .counts-whole) (k .accepted .counts-order);

@@ -1,7 +1,7 @@
 -- Histories: lists of takes and lets go, refused ones included, run from a reverse map and counts, and what is claimed of each of them.
 -- The statement is `EveryHistory`, at the end; what it speaks of stands before it. proofs/History.antt proves it.
 -- Assumes nothing.
-use Prim.Native.Nat.{ℕ, _+_, _*_, _<_, _≤_, max}
+use Prim.Native.Nat.{ℕ, _+_, _*_, _≤_, max}
 use mathlib.Core.Bool.{Bool, true, false, not, _&&_, _||_}
 use mathlib.Core.Path.{_≡_, refl}
 use mathlib.Core.Logic.{_↔_}
@@ -29,7 +29,7 @@ use Rattle.trees.specs.Shapes.{shapeOf}
 use Rattle.trees.specs.RoundTrip as trip
 use Rattle.lists.specs.Extent.{over, within, runs}
 use Rattle.lists.specs.Holders.{holders}
-use Rattle.lists.specs.Edits.{insertOutcome, insertSharedOutcome}
+use Rattle.lists.specs.Edits.{insertOutcome}
 use Rattle.groups.specs.LetGo.{Gone, letGoOutcome}
 use Rattle.groups.specs.TakeHeld.{Both, takeHeldOutcome}
 
@@ -81,18 +81,12 @@ held σ b = holders (recordsOf rmaps (σ .map)) b
 
 -- ---- one change
 
--- first takes by `insert` and by `insert_shared`, takes of held blocks, and lets go, with any extents and output lengths
+-- first takes by `insert`, takes of held blocks, and lets go, with any extents and output lengths. An extent taken comes with the fact that its
+-- numbers are those of its fields, as every record's in memory are: it is stored as it is.
 pub data Change : Type 0 where
-  take : Rmap → (room : ℕ) → Change
-  takeShared : Rmap → (room : ℕ) → Change
-  takeHeld : Rmap → (room countsRoom : ℕ) → Change
-  letGo : Rmap → (room countsRoom freeRoom : ℕ) → Change
-
-abbrev pub extent : Change → Rmap
-extent (take x room) = x
-extent (takeShared x room) = x
-extent (takeHeld x room countsRoom) = x
-extent (letGo x room countsRoom freeRoom) = x
+  take : (x : Rmap) → RmapFits x → (room : ℕ) → Change
+  takeHeld : (x : Rmap) → RmapFits x → (room countsRoom : ℕ) → Change
+  letGo : (x : Rmap) → (room countsRoom freeRoom : ℕ) → Change
 
 -- what an accepted call leaves: the lists, and the free extents that it offers
 pub record Left : Type 0 where
@@ -109,11 +103,10 @@ tookHeld g = record { lists = record { map = bytesOf rmaps (g .map); counts = by
 abbrev pub went : Gone → Left
 went g = record { lists = record { map = bytesOf rmaps (g .map); counts = bytesOf refcounts (g .counts) }; free = g .free }
 
--- each outcome is the one 01 defines, or 02 for a take of held blocks
+-- each outcome is the one 01 defines, with 02's 23 of a first take, and 02's for a take of held blocks
 unfoldable pub step : Lists → Change → Outcome Left
-step σ (take x room) = mapOutcome (took σ) (insertOutcome (σ .map) x room)
-step σ (takeShared x room) = mapOutcome (took σ) (insertSharedOutcome (σ .map) x room)
-step σ (takeHeld x room countsRoom) = mapOutcome tookHeld (takeHeldOutcome (σ .map) (σ .counts) x room countsRoom)
+step σ (take x fits room) = mapOutcome (took σ) (insertOutcome (σ .map) x room)
+step σ (takeHeld x fits room countsRoom) = mapOutcome tookHeld (takeHeldOutcome (σ .map) (σ .counts) x room countsRoom)
 step σ (letGo x room countsRoom freeRoom) = mapOutcome went (letGoOutcome (σ .map) (σ .counts) x room countsRoom freeRoom)
 
 -- each call reads the lists the last accepted one left
@@ -126,23 +119,15 @@ unfoldable pub covered : Outcome Left → Rmap → ℕ → ℕ
 covered (done w) x b = within (x .startblock) (x .blockcount) 1 b
 covered (refused n v) x b = 0
 
--- the same of first takes alone, of all takes, and of lets go alone
-unfoldable pub firstTaken : Change → Outcome Left → ℕ → ℕ
-firstTaken (take x room) o b = covered o x b
-firstTaken (takeShared x room) o b = covered o x b
-firstTaken (takeHeld x room countsRoom) o b = 0
-firstTaken (letGo x room countsRoom freeRoom) o b = 0
-
+-- the same of takes alone, and of lets go alone
 unfoldable pub taken : Change → Outcome Left → ℕ → ℕ
-taken (take x room) o b = covered o x b
-taken (takeShared x room) o b = covered o x b
-taken (takeHeld x room countsRoom) o b = covered o x b
+taken (take x fits room) o b = covered o x b
+taken (takeHeld x fits room countsRoom) o b = covered o x b
 taken (letGo x room countsRoom freeRoom) o b = 0
 
 unfoldable pub gone : Change → Outcome Left → ℕ → ℕ
-gone (take x room) o b = 0
-gone (takeShared x room) o b = 0
-gone (takeHeld x room countsRoom) o b = 0
+gone (take x fits room) o b = 0
+gone (takeHeld x fits room countsRoom) o b = 0
 gone (letGo x room countsRoom freeRoom) o b = covered o x b
 
 -- ---- the whole list
@@ -165,10 +150,6 @@ letsGo σ (c ∷ cs) b = gone c (step σ c) b + letsGo (after σ (step σ c)) cs
 pub record At (cs before : List Change) (c : Change) : Type 0 where
   pub rest : List Change
   pub stands : cs ≡ before ++ (c ∷ rest)
-
--- a block is held within a history if the sum so far is above 0: the records at the start + accepted takes − accepted lets go that covered it
-abbrev pub Held : Lists → List Change → ℕ → Type 0
-Held σ before b = letsGo σ before b < held σ b + takes σ before b
 
 -- ---- built, stored and walked
 
@@ -199,15 +180,10 @@ Returned kind list =
 
 -- ---- the claim
 
--- what a history starts from
-pub record Start (σ : Lists) (cs : List Change) : Type 0 where
-  -- a reverse map and counts that are accepted and agree
+-- what a history starts from: a reverse map and counts that are accepted and agree. Nothing is asked of the changes.
+pub record Start (σ : Lists) : Type 0 where
   pub accepted : Accepted σ
   pub agree : Agreeing σ
-  -- an extent's numbers are those of its fields
-  pub extents : (before : List Change) (c : Change) → At cs before c → RmapFits (extent c)
-  -- no accepted first take covering a block then held
-  pub fresh : (before : List Change) (c : Change) → At cs before c → (b : ℕ) → 0 < firstTaken c (step (run σ before) c) b → Held σ before b → ⊥
 
 -- what comes of it
 pub record Claim (σ : Lists) (cs : List Change) : Type 0 where
@@ -229,4 +205,4 @@ pub record Claim (σ : Lists) (cs : List Change) : Type 0 where
 
 -- every history from such a start comes out so
 abbrev pub EveryHistory : Type 0
-EveryHistory = (σ : Lists) (cs : List Change) → Start σ cs → Claim σ cs
+EveryHistory = (σ : Lists) (cs : List Change) → Start σ → Claim σ cs

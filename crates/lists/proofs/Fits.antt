@@ -13,7 +13,8 @@ use Rattle.codec.specs.declared.rmap.Rmap.{Rmap}
 use Rattle.codec.specs.declared.refcount.Refcount.{Refcount}
 use Rattle.codec.specs.declared.free_extent.FreeExtent.{FreeExtent}
 use Rattle.lists.specs.Extent.{grow, runs}
-use Rattle.lists.specs.RmapEdits.{first, replace, nothing, place, contains, chosen, front, later, placeLater, cutOut, remove, continues, joined, attach, clear, insertAfter, insert, behind, ahead, shareBefore, insertShared}
+use Rattle.lists.specs.RmapEdits.{first, replace, nothing, place, contains, chosen, front, later, placeLater, cutOut, remove, continues, joined, attach, insertAfter, insert, behind, ahead, shareBefore, insertShared}
+use Rattle.lists.specs.RmapPlans.{noOverlap}
 use Rattle.lists.specs.Release as R
 use Rattle.lists.proofs.Cases.{split, tests}
 use Rattle.lists.proofs.Found.{first-passes, contains-ends, chosen-contains}
@@ -130,7 +131,7 @@ wide-storable q (r ∷ l) h k =
     let g = h .0 in
     (record { startblock = omega arith; blockcount = omega arith; owner = k .0 .0; offset = k .0 .1 }, wide-storable r l (h .2) (k .1))
 
-pub storable-insert : (x : Rmap) (l : List Rmap) → Good x → clear x l ≡ true → Accepted l → RmapFits x → AllStorable rmaps l → AllStorable rmaps (insert x l)
+pub storable-insert : (x : Rmap) (l : List Rmap) → Good x → noOverlap x l ≡ true → Accepted l → RmapFits x → AllStorable rmaps l → AllStorable rmaps (insert x l)
 storable-insert x l g e h f k = wide-storable least (insert x l) (acc-insert x l g e h) (all-insert Wide wide-joined x l (f .owner, f .offset) (storable-wide l k))
 
 pub storable-insertShared : (x : Rmap) (l : List Rmap) → Good x → Accepted l → RmapFits x → AllStorable rmaps l → AllStorable rmaps (insertShared x l)

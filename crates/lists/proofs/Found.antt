@@ -1,15 +1,16 @@
 -- What is found first in a list, and the record that a removal cuts.
 -- Assumes nothing.
-use Prim.Native.Nat.{ℕ, _≤_}
-use mathlib.Core.Bool.{Bool, true, _&&_}
+use Prim.Native.Nat.{ℕ, _≤_, _<_}
+use mathlib.Core.Bool.{Bool, true, false, _&&_}
 use mathlib.Core.Path.{_≡_, refl, ap, _∙_}
 use mathlib.Core.List.{List, [], _∷_}
 use mathlib.Core.Option.{Option, none, some}
 use native.Mathlib.Omega.{arith}
-use lib.Dec.{leb, eqb}
+use lib.Dec.{ltb, leb, eqb}
 use Rattle.codec.specs.Rmaps.{end, flags}
 use Rattle.codec.specs.declared.rmap.Rmap.{Rmap}
-use Rattle.lists.specs.RmapEdits.{first, isSome, any, replace, contains, contained, linesUp, chosen, continues}
+use Rattle.lists.specs.RmapEdits.{first, isSome, any, replace, overlaps, contains, contained, linesUp, chosen, continues}
+use Rattle.lists.specs.RmapPlans.{noOverlap}
 use Rattle.lists.proofs.Cases.{split, tests, conj, and-l}
 
 -- what is found first passes the test
@@ -34,6 +35,23 @@ pub replace-none : (p : Rmap → Bool) (f : Rmap → List Rmap) (l : List Rmap) 
 unfolding first replace
 replace-none p f [] e = refl
 replace-none p f (r ∷ l) e = split (p r) (λ g. cc) (λ g. rw g (ap (λ (m : List Rmap). r ∷ m) (replace-none p f l (rw g at e))))
+
+-- ---- what overlaps
+
+pub overlaps-ends : (x r : Rmap) → overlaps x r ≡ true → (r .startblock < end x) × (x .startblock < end r)
+unfolding overlaps
+overlaps-ends x r e =
+    let h : ltb (r .startblock) (end x) ≡ true = search conj in
+    let k : ltb (x .startblock) (end r) ≡ true = search conj in
+    (omega tests, omega tests)
+
+-- where no record of a list overlaps x, neither the first does nor one behind it
+pub no-overlap-parts : (x r : Rmap) (l : List Rmap) → noOverlap x (r ∷ l) ≡ true → (overlaps x r ≡ false) × (noOverlap x l ≡ true)
+unfolding first isSome
+no-overlap-parts x r l e =
+    split (overlaps x r)
+    (λ f. let h : false ≡ true = rw f at e in let z : _≡_ {A = ℕ} 0 1 = cc in absurd (omega arith))
+    (λ f. (f, rw f at e))
 
 -- ---- the record cut
 

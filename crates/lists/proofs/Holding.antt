@@ -1,4 +1,4 @@
--- Every block of an extent is held exactly if the records, in order, reach from its start to its end.
+-- Every block of an extent is held exactly if the records, in order, reach from its start to its end; and none is exactly if no record overlaps it.
 -- Assumes nothing.
 use Prim.Native.Nat.{ℕ, zero, suc, _+_, _*_, _/_, _≤_, _<_, max}
 use mathlib.Core.Bool.{Bool, true, false, cond, _&&_}
@@ -6,19 +6,52 @@ use mathlib.Core.Path.{_≡_, refl, sym, _∙_}
 use mathlib.Core.List.{List, [], _∷_}
 use native.Mathlib.Omega.{arith}
 use native.Mathlib.Numerals.{add-one}
-use lib.Dec.{ltb, leb}
+use lib.Dec.{ltb, leb, eqb}
 use lib.ListN.{length, drop, drop-of-length-le}
-use borrow.Author.Tests.{lt-ltb, le-leb, lt-leb}
+use borrow.Author.Tests.{lt-ltb, le-ltb, le-leb, lt-leb, eq-eqb, ne-eqb}
 use Rattle.codec.specs.Bytes.{bytesAt}
 use Rattle.codec.specs.Records.{Kind, recordsOf, rmaps}
-use Rattle.codec.specs.Rmaps.{end, accepted}
+use Rattle.codec.specs.Rmaps.{end, least, good, accepted}
 use Rattle.codec.specs.declared.rmap.Rmap.{Rmap}
 use Rattle.codec.proofs.RecordLists.{length-recordsOf, recordsOf-next}
 use Rattle.lists.specs.Extent.{over, within}
 use Rattle.lists.specs.Holders.{holders}
-use Rattle.lists.specs.Held.{heldAll}
+use Rattle.lists.specs.Held.{eachBlock, heldAll, heldNone}
+use Rattle.lists.specs.RmapEdits.{first, isSome, overlaps}
+use Rattle.lists.specs.RmapPlans.{noOverlap, OverlapsTell}
 use Rattle.lists.proofs.Cases.{split, tests, over-facts, within-in, within-left, within-right, within-not}
-use Rattle.lists.proofs.RmapOrder.{Le, byStart, byOwner, byOffset, Acc, accepted-facts}
+use Rattle.lists.proofs.Found.{overlaps-ends, no-overlap-parts}
+use Rattle.lists.proofs.RmapOrder.{Le, byStart, byOwner, byOffset, Acc, After, accepted-facts, good-facts}
+
+-- ---- a test of each block of an extent
+
+module _ (p : ℕ → Bool) where
+  each-true : (s c : ℕ) → ((b : ℕ) → s ≤ b → b < s + c → p b ≡ true) → eachBlock p s c ≡ true
+  unfolding eachBlock
+  each-true s zero h = refl
+  each-true s (suc c) h = rw (h s (omega arith) (omega arith)) (each-true (suc s) c (λ b u v. h b (omega arith) (omega arith)))
+
+  each-false : (s c b : ℕ) → s ≤ b → b < s + c → p b ≡ false → eachBlock p s c ≡ false
+  unfolding eachBlock
+  each-false s zero b u v h = absurd (omega arith)
+  each-false s (suc c) b u v h =
+      split (p s)
+      (λ e. rw e (each-false (suc s) c b (split (ltb s b) (λ f. omega tests) (λ f. let z : s ≡ b = omega tests in absurd (differ (rw z at e) h))) (omega arith) h))
+      (λ e. rw e refl)
+    where
+      differ : p b ≡ true → p b ≡ false → ⊥
+      differ e f = let z : _≡_ {A = ℕ} 0 1 = cc in omega arith
+
+  -- where it holds, each block passes
+  each-means : (s c : ℕ) → eachBlock p s c ≡ true → (b : ℕ) → 0 < within s c 1 b → p b ≡ true
+  each-means s c h b k =
+      split (p b) (λ e. e)
+      (λ e. let z : eachBlock p s c ≡ false = each-false s c b (inside .0) (inside .1) e in let y : _≡_ {A = ℕ} 0 1 = cc in absurd (omega arith))
+    where
+      inside : (s ≤ b) × (b < s + c)
+      inside = split (over s c b) (λ e. over-facts s c b e) (λ e. absurd (omega (arith, within-not s c 1 b e)))
+
+-- ---- 27, by how far the records reach
 
 -- the first block from a on that no record lies over, along a list in order
 unfoldable pub reachOf : ℕ → List Rmap → ℕ
@@ -63,24 +96,11 @@ reach-free d e f a (r ∷ l) h =
     (λ t. rw t (omega (arith, within-right (r .startblock) (r .blockcount) 1 (reachOf (max a (end r)) l) (omega (arith, reach-le (max a (end r)) l)), reach-free (r .startblock) (r .owner) (r .offset) (max a (end r)) l (h .2))))
     (λ t. rw t (omega (arith, within-left (r .startblock) (r .blockcount) 1 a (omega tests), none-before a (r .startblock) (r .owner) (r .offset) l (h .2) (omega tests))))
 
-held-each : (l : List Rmap) (s c : ℕ) → ((b : ℕ) → s ≤ b → b < s + c → 0 < holders l b) → heldAll l s c ≡ true
-unfolding heldAll
-held-each l s zero h = refl
-held-each l s (suc c) h = rw (lt-ltb 0 (holders l s) (h s (omega arith) (omega arith))) (held-each l (suc s) c (λ b p q. h b (omega arith) (omega arith)))
-
-held-one-not : (l : List Rmap) (s c b : ℕ) → s ≤ b → b < s + c → holders l b ≡ 0 → heldAll l s c ≡ false
-unfolding heldAll
-held-one-not l s zero b p q h = absurd (omega arith)
-held-one-not l s (suc c) b p q h =
-    split (ltb 0 (holders l s))
-    (λ e. rw e (held-one-not l (suc s) c b (split (ltb s b) (λ f. omega tests) (λ f. let z : s ≡ b = omega tests in absurd (let n : holders l s ≡ 0 = rw z h in omega tests))) (omega arith) h))
-    (λ e. rw e refl)
-
 pub held-reach : (l : List Rmap) (s c : ℕ) → accepted l ≡ true → leb (s + c) (reachOf s l) ≡ heldAll l s c
 held-reach l s c h =
     split (leb (s + c) (reachOf s l))
-    (λ e. e ∙ sym (held-each l s c (λ b p q. reach-held s l b p (omega tests))))
-    (λ e. e ∙ sym (held-one-not l s c (reachOf s l) (reach-le s l) (omega tests) (reach-free _ _ _ s l (accepted-facts l h))))
+    (λ e. e ∙ sym (each-true _ s c (λ b p q. lt-ltb 0 (holders l b) (reach-held s l b p (omega tests)))))
+    (λ e. e ∙ sym (each-false _ s c (reachOf s l) (reach-le s l) (omega tests) (le-ltb 0 (holders l (reachOf s l)) (omega (arith, reach-free _ _ _ s l (accepted-facts l h))))))
 
 -- ---- along the bytes of a list
 
@@ -104,13 +124,47 @@ module _ (b : List ℕ) (s c i reach : ℕ) (order : accepted (recordsOf rmaps b
   unfolding reachOf
   reach-ends h = answered (rw (drop-of-length-le (recordsOf rmaps b) {i = i} (rw (length-recordsOf rmaps b) h)) refl)
 
--- ---- what it means
+-- ---- 23, by the records that overlap
+
+-- a record that does not overlap x lies over none of its blocks
+apart : (x r : Rmap) (b : ℕ) → overlaps x r ≡ false → x .startblock ≤ b → b < end x → within (r .startblock) (r .blockcount) 1 b ≡ 0
+unfolding overlaps
+apart x r b e u v =
+    split (ltb b (end r))
+    (λ f. let k : ltb (x .startblock) (end r) ≡ true = lt-ltb (x .startblock) (end r) (omega tests) in
+    split (leb (r .startblock) b)
+    (λ g. let h : ltb (r .startblock) (end x) ≡ true = lt-ltb (r .startblock) (end x) (omega tests) in let z : _≡_ {A = ℕ} 0 1 = cc in absurd (omega arith))
+    (λ g. within-left (r .startblock) (r .blockcount) 1 b (omega tests)))
+    (λ f. within-right (r .startblock) (r .blockcount) 1 b (omega tests))
+
+none-over : (x : Rmap) (l : List Rmap) (b : ℕ) → noOverlap x l ≡ true → x .startblock ≤ b → b < end x → holders l b ≡ 0
+unfolding holders
+none-over x [] b e u v = refl
+none-over x (r ∷ l) b e u v = let d = no-overlap-parts x r l e in omega (arith, apart x r b (d .0) u v, none-over x l b (d .1) u v)
+
+-- where one overlaps, a block of x is held: the first that they have in common
+one-over : (q x : Rmap) (l : List Rmap) → 0 < x .blockcount → After q l → noOverlap x l ≡ false
+    → (b : ℕ) × ((x .startblock ≤ b) × (b < end x) × (0 < holders l b))
+unfolding holders first isSome
+one-over q x [] n h e = let z : _≡_ {A = ℕ} 0 1 = cc in absurd (omega arith)
+one-over q x (r ∷ l) n h e =
+    split (overlaps x r)
+    (λ f. let k = overlaps-ends x r f in
+    let b : ℕ = max (x .startblock) (r .startblock) in
+    (b, (omega arith, omega (arith, n, h .0 .0), omega (arith, within-in (r .startblock) (r .blockcount) 1 b (omega arith) (omega (arith, h .0 .0))))))
+    (λ f. let k = one-over r x l n (h .2) (rw f at e) in (k .0, (k .1 .0, k .1 .1, omega (arith, k .1 .2))))
+
+pub overlaps-tell : OverlapsTell
+overlaps-tell x l a g =
+    split (noOverlap x l)
+    (λ e. each-true _ (x .startblock) (x .blockcount) (λ b u v. eq-eqb (holders l b) 0 (none-over x l b e u v)) ∙ sym e)
+    (λ e. let k = one-over least x l (good-facts x g .0) (accepted-facts l a) e in
+    each-false _ (x .startblock) (x .blockcount) (k .0) (k .1 .0) (k .1 .1) (ne-eqb (holders l (k .0)) 0 (omega (arith, k .1 .2))) ∙ sym e)
+
+-- ---- what they mean
 
 pub held-means : (l : List Rmap) (s c : ℕ) → heldAll l s c ≡ true → (b : ℕ) → 0 < within s c 1 b → 0 < holders l b
-held-means l s c h b k = go l s c h b (inside .0) (inside .1)
-  where
-    inside : (s ≤ b) × (b < s + c)
-    inside = split (over s c b) (λ e. over-facts s c b e) (λ e. absurd (omega (arith, within-not s c 1 b e)))
+held-means l s c h b k = let e : ltb 0 (holders l b) ≡ true = each-means (λ b. ltb 0 (holders l b)) s c h b k in omega tests
 
-    go : (l : List Rmap) (s c : ℕ) → heldAll l s c ≡ true → (b : ℕ) → s ≤ b → b < s + c → 0 < holders l b
-    go l s c h b p q = split (ltb 0 (holders l b)) (λ e. omega tests) (λ e. let z : heldAll l s c ≡ false = held-one-not l s c b p q (omega tests) in let y : _≡_ {A = ℕ} 0 1 = cc in absurd (omega arith))
+pub unheld-means : (l : List Rmap) (s c : ℕ) → heldNone l s c ≡ true → (b : ℕ) → 0 < within s c 1 b → holders l b ≡ 0
+unheld-means l s c h b k = let e : eqb (holders l b) 0 ≡ true = each-means (λ b. eqb (holders l b) 0) s c h b k in omega tests

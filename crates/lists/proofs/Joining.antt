@@ -12,7 +12,7 @@ use borrow.Author.Tests.{lt-ltb, le-ltb, lt-leb, le-leb, eq-eqb, ne-eqb}
 use Rattle.codec.specs.Rmaps.{end, flags, fileOffset, reserved, exempt, least, accepted}
 use Rattle.codec.specs.declared.rmap.Rmap.{Rmap}
 use Rattle.lists.specs.declared.rmap_plans.Joined.{Joined}
-use Rattle.lists.specs.RmapEdits.{continues, joined, attach, clash, contains, linesUp}
+use Rattle.lists.specs.RmapEdits.{continues, joined, attach, overlaps, clash, contains, linesUp}
 use Rattle.lists.specs.RmapPlans.{alike, joinAt}
 use Rattle.lists.proofs.Cases.{split, tests, conj, and-l, and-r}
 use Rattle.lists.proofs.Found.{continues-end}
@@ -88,19 +88,23 @@ module _ (x r : Rmap) where
 
   -- ---- clash
 
-  pub clash-after : end x ≤ r .startblock → false ≡ clash x r
-  unfolding clash
-  clash-after h = simp (le-ltb _ _ h)
+  pub overlaps-after : end x ≤ r .startblock → false ≡ overlaps x r
+  unfolding overlaps
+  overlaps-after h = simp (le-ltb _ _ h)
 
-  pub clash-before : end r ≤ x .startblock → false ≡ clash x r
-  unfolding clash
-  clash-before h = simp (le-ltb _ _ h, and-false)
+  pub overlaps-end : r .startblock < end x → ltb (x .startblock) (end r) ≡ overlaps x r
+  unfolding overlaps
+  overlaps-end h = simp (lt-ltb _ _ h)
 
-  module _ (a : r .startblock < end x) (b : x .startblock < end r) where
+  pub clash-apart : overlaps x r ≡ false → false ≡ clash x r
+  unfolding clash
+  clash-apart h = rw h refl
+
+  module _ (a : overlaps x r ≡ true) where
     clash-over : clash x r ≡ (exempt r || (exempt x || (alike r x && eqb (fileOffset r + x .startblock) (fileOffset x + r .startblock))))
     unfolding clash
     clash-over =
-        rw (lt-ltb (r .startblock) (end x) a, lt-ltb (x .startblock) (end r) b)
+        rw a
         (ap (λ (t : Bool). exempt r || (exempt x || t))
         (and-assoc (eqb (r .owner) (x .owner)) (eqb (flags r) (flags x)) (eqb (fileOffset r + x .startblock) (fileOffset x + r .startblock))))
 

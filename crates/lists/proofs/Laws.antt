@@ -1,9 +1,9 @@
 -- What the edits of the two lists do. From lent bytes to the records of the new list: it is accepted again and can be stored; the records over
 -- each block, or the owners recorded over it, before and after; and which blocks are free again.
 -- Assumes nothing.
-use Prim.Native.Nat.{ℕ, _+_, _^_, _≤_}
+use Prim.Native.Nat.{ℕ, _+_, _^_, _≤_, _<_}
 use mathlib.Core.Bool.{Bool, true, cond, _&&_}
-use mathlib.Core.Path.{_≡_, refl, subst}
+use mathlib.Core.Path.{_≡_, refl, sym, subst, _∙_}
 use mathlib.Core.List.{List, [], _∷_, _++_}
 use native.Mathlib.Omega.{arith}
 use lib.Dec.{ltb, leb, eqb}
@@ -22,14 +22,17 @@ use Rattle.codec.proofs.RecordKinds.{rmaps-lawful, refcounts-lawful}
 use Rattle.codec.proofs.ListBytes.{storable-recordsOf}
 use Rattle.lists.specs.Extent.{over, within, goodExtent}
 use Rattle.lists.specs.Holders.{holders}
-use Rattle.lists.specs.RmapEdits.{clear, insert, unclashed, insertShared, contained, remove}
+use Rattle.lists.specs.Held.{heldNone}
+use Rattle.lists.specs.RmapEdits.{insert, unclashed, insertShared, contained, remove}
 use Rattle.lists.specs.Release.{owners, release, unshared}
+use Rattle.lists.specs.RmapPlans.{noOverlap}
 use Rattle.lists.specs.Passes.{fewer}
 use Rattle.lists.specs.Release as counts
 use Rattle.lists.specs.Edits.{mapQuestions, countQuestions, fits, insertOutcome, insertSharedOutcome, removeOutcome, Freed, releaseOutcome, written}
 use Rattle.lists.proofs.Cases.{tests, conj}
 use Rattle.lists.proofs.RmapOrder.{good-facts, accepted-facts, facts-accepted, acc-insert, acc-insertShared, acc-remove}
 use Rattle.lists.proofs.Holders.{holders-insert, holders-insertShared, holders-remove}
+use Rattle.lists.proofs.Holding.{overlaps-tell, unheld-means}
 use Rattle.lists.proofs.Counts as C
 use Rattle.lists.proofs.Fits.{storable-insert, storable-insertShared, storable-remove, storable-release, storable-unshared}
 use Rattle.lists.proofs.Longest.{lies, Apart, lies-runs, apart-runs}
@@ -53,11 +56,16 @@ abbrev pub Takes : (Rmap → List Rmap → Bool) → (Rmap → List Rmap → Lis
 Takes test edit =
     (x : Rmap) (l : List Rmap) → rmap.good x ≡ true → test x l ≡ true → rmap.accepted l ≡ true → RmapFits x → AllStorable rmaps l → Taken x l (edit x l)
 
-pub insert-takes : Takes clear insert
+-- 23 of `insert`
+abbrev unheld : Rmap → List Rmap → Bool
+unheld x l = heldNone l (x .startblock) (x .blockcount)
+
+pub insert-takes : Takes unheld insert
 insert-takes x l g e a f s =
+    let n : noOverlap x l ≡ true = sym (overlaps-tell x l a g) ∙ e in
     record {
-      accepted = facts-accepted (insert x l) (acc-insert x l (good-facts x g) e (accepted-facts l a));
-      stored = storable-insert x l (good-facts x g) e (accepted-facts l a) f s;
+      accepted = facts-accepted (insert x l) (acc-insert x l (good-facts x g) n (accepted-facts l a));
+      stored = storable-insert x l (good-facts x g) n (accepted-facts l a) f s;
       held = holders-insert x l;
     }
 
@@ -128,7 +136,16 @@ take-law test edit t b x room m h f e =
 pub insert-law : (b : List ℕ) (x : Rmap) (room : ℕ) (m : List Rmap) → IsBytes b → RmapFits x → insertOutcome b x room ≡ done m
     → Taken x (recordsOf rmaps b) m
 unfolding insertOutcome
-insert-law = take-law clear insert insert-takes
+insert-law = take-law unheld insert insert-takes
+
+-- and nobody held a block of the extent
+pub insert-unheld : (b : List ℕ) (x : Rmap) (room : ℕ) (m : List Rmap) → insertOutcome b x room ≡ done m
+    → (k : ℕ) → 0 < within (x .startblock) (x .blockcount) 1 k → holders (recordsOf rmaps b) k ≡ 0
+unfolding insertOutcome
+insert-unheld b x room m e k h =
+    let l : List Rmap = recordsOf rmaps b in
+    let q = done-means (mapQuestions b x ++ (ask 23 (unheld x l) ∷ ask 26 (fits rmaps (insert x l) room) ∷ [])) (insert x l) m e .0 in
+    unheld-means l (x .startblock) (x .blockcount) (q .1 .1 .1 .0) k h
 
 pub insertShared-law : (b : List ℕ) (x : Rmap) (room : ℕ) (m : List Rmap) → IsBytes b → RmapFits x → insertSharedOutcome b x room ≡ done m
     → Taken x (recordsOf rmaps b) m

@@ -24,17 +24,19 @@ use Rattle.lists.specs.declared.rmap_plans.Part.{Part}
 use Rattle.lists.specs.declared.rmap_plans.Plan.{Plan}
 use Rattle.lists.specs.declared.rmap_plans.Planned.{Planned}
 use Rattle.lists.specs.declared.rmap_plans.Planned.the-variants as planned
-use Rattle.lists.specs.RmapEdits.{unclashed, clash, continues, joined, later}
+use Rattle.lists.specs.Held.{heldNone}
+use Rattle.lists.specs.RmapEdits.{any, continues, joined, overlaps, later}
 use Rattle.lists.specs.Edits.{fits, written}
 use Rattle.lists.specs.Answer.{editNumber, editedOutcome, lengthOf}
-use Rattle.lists.specs.RmapPlans.{allowed, edited, editBefore26, editOutcome, indexWhere, joinAt, partsOf, partCount, listOf, PartsGood, PlanGood, TakeGood, AskedIs, PlanIs, PlannedGood, plannedOutcome, roomed}
+use Rattle.lists.specs.RmapPlans.{allowed, edited, editBefore26, editOutcome, indexWhere, noOverlap, joinAt, partsOf, partCount, listOf, PartsGood, PlanGood, TakeGood, AskedIs, PlanIs, PlannedGood, plannedOutcome, roomed}
 use Rattle.lists.proofs.Cases.{split, tests, or-l}
-use Rattle.lists.proofs.Index.{index-le}
+use Rattle.lists.proofs.Index.{index-le, any-index}
+use Rattle.lists.proofs.Holding.{overlaps-tell}
 use Rattle.lists.proofs.RmapOrder.{fileEnd, each, accepted-facts, good-facts, facts-good}
 use Rattle.lists.proofs.Joining.{lower, upper, join-out, join-miss, join-hit, join-fits}
 use Rattle.lists.proofs.Scanning.{read-at}
 use Rattle.lists.proofs.Writing.{size-good}
-use Rattle.lists.proofs.Planning.{plan-done, plan-refused, room-asked, unclashed-index}
+use Rattle.lists.proofs.Planning.{plan-done, plan-refused, room-asked}
 
 -- ---- records and indices
 
@@ -139,12 +141,24 @@ module _ (e : Edit) (b : List ℕ) (x : Rmap) where
           let c : done l ≡ editOutcome e b x (length o) = rw n at a in
           (ap (λ (m : ℕ). done m) (h .1 .size) ∙ ap (lengthOf rmaps) c, w ∙ ap (written rmaps o) c)
 
--- ---- 23 of insert_shared by the index of the first that clashes
+-- ---- 23 of both inserts by the index of the first record that is in the way
 
-pub clash-found : (b : List ℕ) (x : Rmap) (i : ℕ) → i ≡ indexWhere (clash x) (recordsOf rmaps b) → i < length b / 24 → unclashed x (recordsOf rmaps b) ≡ false
-clash-found b x i e h =
-    unclashed-index x (recordsOf rmaps b) ∙ ap not (lt-ltb (indexWhere (clash x) (recordsOf rmaps b)) (length (recordsOf rmaps b)) (omega (arith, length-recordsOf rmaps b)))
+module _ (p : Rmap → Bool) (b : List ℕ) (i : ℕ) (e : i ≡ indexWhere p (recordsOf rmaps b)) where
+  pub none-found : length b / 24 ≤ i → not (any p (recordsOf rmaps b)) ≡ true
+  none-found h =
+      ap not (any-index p (recordsOf rmaps b) ∙ le-ltb (indexWhere p (recordsOf rmaps b)) (length (recordsOf rmaps b)) (omega (arith, length-recordsOf rmaps b)))
 
-pub clash-none : (b : List ℕ) (x : Rmap) (i : ℕ) → i ≡ indexWhere (clash x) (recordsOf rmaps b) → length b / 24 ≤ i → unclashed x (recordsOf rmaps b) ≡ true
-clash-none b x i e h =
-    unclashed-index x (recordsOf rmaps b) ∙ ap not (le-ltb (indexWhere (clash x) (recordsOf rmaps b)) (length (recordsOf rmaps b)) (omega (arith, length-recordsOf rmaps b)))
+  pub one-found : i < length b / 24 → not (any p (recordsOf rmaps b)) ≡ false
+  one-found h =
+      ap not (any-index p (recordsOf rmaps b) ∙ lt-ltb (indexWhere p (recordsOf rmaps b)) (length (recordsOf rmaps b)) (omega (arith, length-recordsOf rmaps b)))
+
+-- of `insert`, on an accepted list, that is a block held
+module _ (b : List ℕ) (x : Rmap) (g : TakeGood b x) (i : ℕ) (e : i ≡ indexWhere (overlaps x) (recordsOf rmaps b)) where
+  told : heldNone (recordsOf rmaps b) (x .startblock) (x .blockcount) ≡ noOverlap x (recordsOf rmaps b)
+  told = overlaps-tell x (recordsOf rmaps b) (g .ordered) (g .extent)
+
+  pub unheld-found : length b / 24 ≤ i → heldNone (recordsOf rmaps b) (x .startblock) (x .blockcount) ≡ true
+  unheld-found h = told ∙ none-found (overlaps x) b i e h
+
+  pub held-found : i < length b / 24 → heldNone (recordsOf rmaps b) (x .startblock) (x .blockcount) ≡ false
+  held-found h = told ∙ one-found (overlaps x) b i e h

@@ -5,7 +5,7 @@ use native.Mathlib.Omega.{arith}
 use native.Mathlib.Nat.{sub-self}
 use native.Mathlib.Numerals.{add-one}
 use mathlib.Core.Path.{_≡_, refl, sym, ap, _∙_}
-use mathlib.Core.Bool.{Bool, true, false, not, cond, _&&_}
+use mathlib.Core.Bool.{Bool, true, false, cond}
 use mathlib.Core.List.{List, [], _∷_, _++_, append-assoc, append-nil}
 use lib.Dec.{ltb, leb}
 use lib.ListN.{length, getD, take, drop, drop-of-length-le}
@@ -24,13 +24,13 @@ use Rattle.lists.specs.declared.rmap_plans.Edit.{Edit}
 use Rattle.lists.specs.declared.rmap_plans.Edit.the-variants.{Insert, InsertShared, Remove}
 use Rattle.lists.specs.declared.rmap_plans.Joined.{Joined}
 use Rattle.lists.specs.declared.rmap_plans.Plan.{Plan}
-use Rattle.lists.specs.RmapEdits.{clear, insert, unclashed, insertShared, contained, remove, clash, continues, joined, chosen, front, later}
+use Rattle.lists.specs.RmapEdits.{insert, insertShared, contained, remove, continues, joined, chosen, front, later}
 use Rattle.lists.specs.Edits.{mapQuestions, fits, written, insertOutcome, insertSharedOutcome, removeOutcome}
 use Rattle.lists.specs.Answer.{editNumber, editedOutcome, lengthOf}
 use Rattle.lists.specs.RmapPlans.{allowed, edited, editBefore26, editOutcome, indexWhere, seat, previous, joinAt, run, partsOf, partCount, listOf, PartsGood, PlanGood, TakeGood, roomed}
 use Rattle.lists.proofs.Cases.{split, tests}
 use Rattle.lists.proofs.Found.{contains-ends}
-use Rattle.lists.proofs.Index.{index-le, any-index}
+use Rattle.lists.proofs.Index.{index-le}
 use Rattle.lists.proofs.RmapOrder.{accepted-facts, good-facts}
 use Rattle.lists.proofs.Inserting.{after}
 use Rattle.lists.proofs.Joining.{lowJoin, highJoin, join-out, join-in}
@@ -137,9 +137,6 @@ module _ (x : Rmap) (l : List Rmap) (n : ℕ) (en : n ≡ length l) (at i a z : 
       record { front = omega (arith, at-le); first = (omega arith, at-le); second = (omega arith, at-le); rest = r .1; count = omega (arith, at-le) }
 
 -- ---- insert_shared
-
-pub unclashed-index : (x : Rmap) (l : List Rmap) → unclashed x l ≡ not (ltb (indexWhere (clash x) l) (length l))
-unclashed-index x l = ap not (any-index (clash x) l)
 
 -- what follows the record joined behind
 rest-drop : (l : List Rmap) (y : Rmap) (j : ℕ) → j ≡ highIndex y l → drop (cond (highJoin l j y .joins) (j + 1) j) l ≡ drop (j + 1) l

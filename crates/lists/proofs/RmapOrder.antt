@@ -12,9 +12,10 @@ use borrow.Author.Tests.{lt-ltb, le-ltb, le-leb, eq-eqb, ne-eqb, eqb-false}
 use Rattle.codec.specs.Accepted.{inOrder}
 use Rattle.codec.specs.Rmaps.{end, fileOffset, flags, reserved, mapping, exempt, good, keyOffset, before, follows, least, accepted}
 use Rattle.codec.specs.declared.rmap.Rmap.{Rmap}
-use Rattle.lists.specs.RmapEdits.{first, replace, nothing, place, contains, chosen, front, later, placeLater, cutOut, remove, continues, joined, attach, clearAfter, clear, insertAfter, insert, behind, ahead, shareBefore, insertShared}
+use Rattle.lists.specs.RmapEdits.{first, replace, nothing, place, contains, chosen, front, later, placeLater, cutOut, remove, continues, joined, attach, overlaps, insertAfter, insert, behind, ahead, shareBefore, insertShared}
+use Rattle.lists.specs.RmapPlans.{noOverlap}
 use Rattle.lists.proofs.Cases.{split, tests, conj, and-true, or-l, not-false}
-use Rattle.lists.proofs.Found.{first-passes, contains-ends, chosen-contains}
+use Rattle.lists.proofs.Found.{first-passes, no-overlap-parts, contains-ends, chosen-contains}
 
 -- ---- the order, over the three numbers of a key
 
@@ -271,14 +272,22 @@ acc-attach q r (s ∷ l) h =
 
 -- ---- insert
 
-acc-insertAfter : (q x r : Rmap) (l : List Rmap) → Good x → clearAfter x r l ≡ true → After q (r ∷ l) → After q (insertAfter x r l)
-unfolding insertAfter clearAfter attach
-acc-insertAfter q x r [] g e h = acc-attach q r (x ∷ []) (h .0, h .1, (g, byStart (omega tests), tt))
-acc-insertAfter q x r (s ∷ l) g e h =
+-- a record that starts at or before x, and does not overlap it, starts before it
+starts-before : (x r : Rmap) → Good x → Good r → r .startblock ≤ x .startblock → overlaps x r ≡ false → r .startblock < x .startblock
+unfolding overlaps
+starts-before x r g h k e =
+    let f : ltb (x .startblock) (end r) ≡ false = rw (lt-ltb (r .startblock) (end x) (omega (arith, g .0))) at e in omega (tests, h .0)
+
+acc-insertAfter : (q x r : Rmap) (l : List Rmap) → Good x → noOverlap x (r ∷ l) ≡ true → r .startblock ≤ x .startblock → After q (r ∷ l) → After q (insertAfter x r l)
+unfolding insertAfter attach
+acc-insertAfter q x r [] g e k h =
+    let c = starts-before x r g (h .0) k (no-overlap-parts x r [] e .0) in acc-attach q r (x ∷ []) (h .0, h .1, (g, byStart c, tt))
+acc-insertAfter q x r (s ∷ l) g e k h =
+    let d = no-overlap-parts x r (s ∷ l) e in
+    let c = starts-before x r g (h .0) k (d .0) in
     split (leb (s .startblock) (x .startblock))
-    (λ f. rw f (h .0, h .1, acc-insertAfter r x s l g (rw f at e) (h .2)))
-    (λ f. let c : leb (end r) (x .startblock) ≡ true = rw f at e in
-    rw f (acc-attach q r (attach x (s ∷ l)) (h .0, h .1, acc-attach r x (s ∷ l) (g, byStart (omega tests), (h .2 .0, byStart (omega tests), h .2 .2)))))
+    (λ f. rw f (h .0, h .1, acc-insertAfter r x s l g (d .1) (omega tests) (h .2)))
+    (λ f. rw f (acc-attach q r (attach x (s ∷ l)) (h .0, h .1, acc-attach r x (s ∷ l) (g, byStart c, (h .2 .0, byStart (omega tests), h .2 .2)))))
 
 -- every key comes at or after the least
 pub le-least : (a b c : ℕ) → Le 0 0 0 a b c
@@ -288,12 +297,12 @@ le-least a b c =
     (λ e. byStart (omega tests))
     (λ e. split (ltb 0 b) (λ f. byOwner (omega tests) (omega tests)) (λ f. byOffset (omega tests) (omega tests) (omega arith)))
 
-pub acc-insert : (x : Rmap) (l : List Rmap) → Good x → clear x l ≡ true → Accepted l → Accepted (insert x l)
-unfolding insert clear attach
+pub acc-insert : (x : Rmap) (l : List Rmap) → Good x → noOverlap x l ≡ true → Accepted l → Accepted (insert x l)
+unfolding insert attach
 acc-insert x [] g e h = (g, le-least (x .startblock) (x .owner) (x .offset), tt)
 acc-insert x (r ∷ l) g e h =
     split (leb (r .startblock) (x .startblock))
-    (λ t. rw t (acc-insertAfter least x r l g (rw t at e) h))
+    (λ t. rw t (acc-insertAfter least x r l g e (omega tests) h))
     (λ t. rw t (acc-attach least x (r ∷ l) (g, le-least (x .startblock) (x .owner) (x .offset), (h .0, byStart (omega tests), h .2))))
 
 -- ---- insert_shared

@@ -19,10 +19,10 @@ use Rattle.lists.specs.declared.rmap_plans.Edit.{Edit}
 use Rattle.lists.specs.declared.rmap_plans.Edit.the-variants.{Insert, InsertShared, Remove}
 use Rattle.lists.specs.declared.rmap_plans.Hits.{Hits}
 use Rattle.lists.specs.declared.rmap_plans.Scan.{Scan}
-use Rattle.lists.specs.RmapEdits.{continues, clash, contains, linesUp}
+use Rattle.lists.specs.RmapEdits.{continues, overlaps, clash, contains, linesUp}
 use Rattle.lists.specs.RmapPlans.{indexWhere, seat, touches, tests, noteOf, Noted, Finds, ScanIs}
-use Rattle.lists.proofs.Cases.{split, tests as facts, conj, and-l, and-r, and-true}
-use Rattle.lists.proofs.Found.{contains-ends, continues-end}
+use Rattle.lists.proofs.Cases.{split, tests as facts, and-l, and-r, and-true}
+use Rattle.lists.proofs.Found.{overlaps-ends, contains-ends, continues-end}
 use Rattle.lists.proofs.Index.{index-le, index-same, seen, seen-none, seen-le, seen-next, seen-all}
 use Rattle.lists.proofs.RmapOrder.{accepted-facts}
 use Rattle.lists.proofs.Seats.{seat-past, seat-at}
@@ -34,9 +34,9 @@ abbrev none-hit : Hits
 none-hit = record { first = false; second = false; third = false }
 
 module _ (e : Edit) (x r : Rmap) where
-  pub hits-insert : e ≡ Insert → none-hit ≡ tests e x r
+  pub hits-insert : (a : Bool) → e ≡ Insert → a ≡ overlaps x r → record { first = a; second = false; third = false } ≡ tests e x r
   unfolding tests
-  hits-insert h = rw h refl
+  hits-insert a h p = rw (h, p) refl
 
   pub hits-shared : (a b c : Bool) → e ≡ InsertShared → a ≡ clash x r → b ≡ continues r x → c ≡ continues x r → record { first = a; second = b; third = c } ≡ tests e x r
   unfolding tests
@@ -71,19 +71,15 @@ module _ (x r : Rmap) where
     never : (t : Bool) → (t ≡ true → (x .startblock ≤ end r) × (r .startblock ≤ end x)) → t ≡ false
     never t f = split t (λ e. let k = f e in absurd (apart-ends (k .0) (k .1))) (λ e. e)
 
-    clash-ends : clash x r ≡ true → (x .startblock ≤ end r) × (r .startblock ≤ end x)
-    unfolding clash
-    clash-ends e =
-        let h : ltb (r .startblock) (end x) ≡ true = search conj in
-        let k : ltb (x .startblock) (end r) ≡ true = search conj in
-        (omega facts, omega facts)
+    apart-overlaps : overlaps x r ≡ false
+    apart-overlaps = never (overlaps x r) (λ e. let h = overlaps-ends x r e in (omega arith, omega arith))
 
     pub tests-apart : (e : Edit) → tests e x r ≡ none-hit
-    unfolding tests
-    tests-apart Insert = refl
+    unfolding tests clash
+    tests-apart Insert = rw apart-overlaps refl
     tests-apart InsertShared =
         rw (
-          never (clash x r) clash-ends,
+          apart-overlaps,
           never (continues r x) (λ e. let h = continues-end r x e in (omega arith, omega arith)),
           never (continues x r) (λ e. let h = continues-end x r e in (omega arith, omega arith)),
         ) refl

@@ -16,6 +16,7 @@ use Rattle.codec.specs.declared.rmap.Rmap.{Rmap}
 use Rattle.codec.specs.declared.refcount.Refcount.{Refcount}
 use Rattle.codec.specs.declared.free_extent.FreeExtent.{FreeExtent}
 use Rattle.lists.specs.Extent.{goodExtent}
+use Rattle.lists.specs.Held.{heldNone}
 use Rattle.lists.specs.RmapEdits as rmaps-after
 use Rattle.lists.specs.Release as counts-after
 
@@ -34,7 +35,7 @@ fits k rs room = leb (length (bytesOf k rs)) room
 unfoldable pub insertOutcome : List ℕ → Rmap → ℕ → Outcome (List Rmap)
 insertOutcome b x room =
     let l : List Rmap = recordsOf rmaps b in
-    answer (mapQuestions b x ++ (ask 23 (rmaps-after.clear x l) ∷ ask 26 (fits rmaps (rmaps-after.insert x l) room) ∷ []))
+    answer (mapQuestions b x ++ (ask 23 (heldNone l (x .startblock) (x .blockcount)) ∷ ask 26 (fits rmaps (rmaps-after.insert x l) room) ∷ []))
     (done (rmaps-after.insert x l))
 
 unfoldable pub insertSharedOutcome : List ℕ → Rmap → ℕ → Outcome (List Rmap)

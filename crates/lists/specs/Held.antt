@@ -1,13 +1,21 @@
--- Whether every block of an extent is held.
+-- Whether the blocks of an extent are held: every one of them, or none.
 -- Assumes nothing.
 use Prim.Native.Nat.{ℕ, zero, suc}
 use mathlib.Core.Bool.{Bool, true, _&&_}
 use mathlib.Core.List.{List}
-use lib.Dec.{ltb}
+use lib.Dec.{ltb, eqb}
 use Rattle.codec.specs.declared.rmap.Rmap.{Rmap}
 use Rattle.lists.specs.Holders.{holders}
 
--- does a record lie over each of the n blocks from b on?
-unfoldable pub heldAll : List Rmap → ℕ → ℕ → Bool
-heldAll l b zero = true
-heldAll l b (suc n) = ltb 0 (holders l b) && heldAll l (suc b) n
+-- does each of the n blocks from b on pass the test?
+unfoldable pub eachBlock : (ℕ → Bool) → ℕ → ℕ → Bool
+eachBlock p b zero = true
+eachBlock p b (suc n) = p b && eachBlock p (suc b) n
+
+-- 27: is every block of the extent held?
+abbrev pub heldAll : List Rmap → ℕ → ℕ → Bool
+heldAll l start count = eachBlock (λ b. ltb 0 (holders l b)) start count
+
+-- 23 of `insert`: is no block of the extent held?
+abbrev pub heldNone : List Rmap → ℕ → ℕ → Bool
+heldNone l start count = eachBlock (λ b. eqb (holders l b) 0) start count

@@ -50,16 +50,6 @@ joined r s = record { startblock = r .startblock; blockcount = r .blockcount + s
 
 -- ---- insert
 
--- r is the last record so far that starts at or before x; does the last such end by the start of x?
-unfoldable pub clearAfter : Rmap → Rmap → List Rmap → Bool
-clearAfter x r [] = leb (end r) (x .startblock)
-clearAfter x r (s ∷ l) = cond (leb (s .startblock) (x .startblock)) (clearAfter x s l) (leb (end r) (x .startblock))
-
--- 23: does the last record starting at or before x end by its start?
-unfoldable pub clear : Rmap → List Rmap → Bool
-clear x [] = true
-clear x (r ∷ l) = cond (leb (r .startblock) (x .startblock)) (clearAfter x r l) true
-
 -- r before the list l, joined to its first record where that continues r
 unfoldable pub attach : Rmap → List Rmap → List Rmap
 attach r [] = r ∷ []
@@ -76,13 +66,16 @@ insert x (r ∷ l) = cond (leb (r .startblock) (x .startblock)) (insertAfter x r
 
 -- ---- insert_shared
 
+-- does each of x and r start before the other ends? Then, their counts being above 0, they have a block in common.
+unfoldable pub overlaps : Rmap → Rmap → Bool
+overlaps x r = ltb (r .startblock) (end x) && ltb (x .startblock) (end r)
+
 -- do x and r overlap, and is either reserved or bit 62, or are owner, flags and file offset - start the same?
 unfoldable pub clash : Rmap → Rmap → Bool
 clash x r =
-    ltb (r .startblock) (end x)
-    && (ltb (x .startblock) (end r)
+    overlaps x r
     && (exempt r
-    || (exempt x || (eqb (r .owner) (x .owner) && (eqb (flags r) (flags x) && eqb (fileOffset r + x .startblock) (fileOffset x + r .startblock))))))
+    || (exempt x || (eqb (r .owner) (x .owner) && (eqb (flags r) (flags x) && eqb (fileOffset r + x .startblock) (fileOffset x + r .startblock)))))
 
 -- 23: does no overlapping record clash?
 abbrev pub unclashed : Rmap → List Rmap → Bool

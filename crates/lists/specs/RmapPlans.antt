@@ -2,7 +2,7 @@
 -- Assumes nothing.
 use Prim.Native.Nat.{ℕ, zero, suc, _+_, _-_, _%_, _≤_}
 use mathlib.Core.Path.{_≡_}
-use mathlib.Core.Bool.{Bool, true, false, cond, _&&_}
+use mathlib.Core.Bool.{Bool, true, false, not, cond, _&&_}
 use mathlib.Core.List.{List, [], _∷_, _++_}
 use lib.Dec.{ltb, leb, eqb}
 use lib.ListN.{length, getD, take, drop}
@@ -22,7 +22,8 @@ use Rattle.lists.specs.declared.rmap_plans.Part.{Part}
 use Rattle.lists.specs.declared.rmap_plans.Plan.{Plan}
 use Rattle.lists.specs.declared.rmap_plans.Planned.{Planned}
 use Rattle.lists.specs.declared.rmap_plans.Planned.the-variants as planned
-use Rattle.lists.specs.RmapEdits.{clear, insert, unclashed, insertShared, contained, remove, clash, continues, joined, contains, linesUp}
+use Rattle.lists.specs.RmapEdits.{any, insert, overlaps, unclashed, insertShared, contained, remove, clash, continues, joined, contains, linesUp}
+use Rattle.lists.specs.Held.{heldNone}
 use Rattle.lists.specs.Edits.{mapQuestions, fits, insertOutcome, insertSharedOutcome, removeOutcome}
 use Rattle.lists.specs.Answer.{editNumber}
 
@@ -30,7 +31,7 @@ use Rattle.lists.specs.Answer.{editNumber}
 
 -- the question after those on the list and on the extent: 23 or 24
 abbrev pub allowed : Edit → Rmap → List Rmap → Question
-allowed Insert x l = ask 23 (clear x l)
+allowed Insert x l = ask 23 (heldNone l (x .startblock) (x .blockcount))
 allowed InsertShared x l = ask 23 (unclashed x l)
 allowed Remove x l = ask 24 (contained x l)
 
@@ -65,10 +66,18 @@ indexWhere p (r ∷ l) = cond (p r) 0 (suc (indexWhere p l))
 abbrev pub seat : Rmap → List Rmap → ℕ
 seat z l = indexWhere (follows z) l
 
--- what an edit searches for: insert, nothing, since its place is found by halves; insert_shared, a record that clashes, one that x continues and
--- one that continues x; remove, one that contains x and lines up, and one that contains it
+-- 23 of `insert` by the records, not the blocks: does none of them overlap x?
+abbrev pub noOverlap : Rmap → List Rmap → Bool
+noOverlap x l = not (any (overlaps x) l)
+
+-- the two agree on accepted lists; proofs/Holding.antt shows it
+abbrev pub OverlapsTell : Type 0
+OverlapsTell = (x : Rmap) (l : List Rmap) → accepted l ≡ true → good x ≡ true → heldNone l (x .startblock) (x .blockcount) ≡ noOverlap x l
+
+-- what an edit searches for: insert, a record that overlaps x, its place being found by halves; insert_shared, a record that clashes, one that x
+-- continues and one that continues x; remove, one that contains x and lines up, and one that contains it
 unfoldable pub tests : Edit → Rmap → Rmap → Hits
-tests Insert x r = record { first = false; second = false; third = false }
+tests Insert x r = record { first = overlaps x r; second = false; third = false }
 tests InsertShared x r = record { first = clash x r; second = continues r x; third = continues x r }
 tests Remove x r = record { first = contains x r && linesUp x r; second = contains x r; third = false }
 

@@ -19,16 +19,15 @@ use codec::rmap::exempt;
 ghost use mathlib.Core.Path.{_≡_};
 ghost use mathlib.Core.Bool.{true, cond};
 ghost use Prim.Native.Nat.{_+_, _/_, _^_, _≤_, _<_};
-ghost use lib.Dec.{ltb};
 ghost use lib.ListN.{length};
 ghost use Rattle.codec.specs.Question.{done};
 ghost use Rattle.codec.specs.Records.{recordsOf, rmaps};
 ghost use Rattle.codec.specs.Rmaps.{end, exempt, good, accepted};
 ghost use Rattle.lists.specs.declared.rmap_plans.Edit.the-variants.{Insert, InsertShared, Remove};
-ghost use Rattle.lists.specs.RmapEdits.{joined, clear, later};
+ghost use Rattle.lists.specs.RmapEdits.{joined, later};
 ghost use Rattle.lists.specs.Edits.{written, insertOutcome, insertSharedOutcome, removeOutcome};
 ghost use Rattle.lists.specs.Answer.{editedOutcome, lengthOf};
-ghost use Rattle.lists.specs.RmapPlans.{editOutcome, indexWhere, Finds, TakeGood, joinAt, previous, partsOf, partCount, PartsGood, plannedOutcome, PlannedGood, PlanIs};
+ghost use Rattle.lists.specs.RmapPlans.{editOutcome, Finds, TakeGood, joinAt, previous, partsOf, partCount, PartsGood, plannedOutcome, PlannedGood, PlanIs};
 
 // The bytes of a record.
 const RECORD: usize = 24;
@@ -101,18 +100,6 @@ fn join_at(old: &[u8], behind: bool, i: usize, x: Rmap) -> Joined
     }
 }
 
-// Does the last record that starts at or before x, the one before `at`, end by its start?
-fn clear(old: &[u8], at: usize, x: Rmap) -> bool
-    requires { ⌜ at ≡ indexWhere (λ r. ltb (x .startblock) (r .startblock)) (recordsOf rmaps (now old)) ⌝ }
-    ensures { λ t. ⌜ t ≡ clear x (recordsOf rmaps (now (old .entry))) ⌝ }
-{
-    if at == 0 {
-        return true;
-    }
-    let r = decode(old, (at - 1) * RECORD);
-    r.startblock as u64 + r.blockcount as u64 <= x.startblock as u64
-}
-
 // How many records a part has.
 fn part_count(p: Part) -> usize
     requires { ⌜ (p .from ≤ p .to) × (p .to < 2 ^ 63) ⌝ }
@@ -142,17 +129,18 @@ fn ready(old: &[u8], front: usize, first: Part, second: Part, rest: usize) -> Pl
 }
 
 // Question 23 of `insert`, and its plan.
-fn place_insert(old: &[u8], x: Rmap) -> Planned
-    requires { ⌜ TakeGood (now old) x ⌝ }
+fn place_insert(old: &[u8], x: Rmap, s: Scan) -> Planned
+    requires { ⌜ TakeGood (now old) x × Finds Insert x (recordsOf rmaps (now old)) s ⌝ }
     ensures { λ p. ⌜ PlanIs Insert (now (old .entry)) x p ⌝ }
 {
+    let n = old.len() / RECORD;
     let at = after(old, x);
-    if !clear(old, at, x) {
+    if s.first < n {
         return Planned::Refused(EditRefusal::Overlap);
     }
     let h = join_at(old, false, at, x);
     let y = h.rmap;
-    let i = previous(at, old.len() / RECORD);
+    let i = previous(at, n);
     let l = join_at(old, true, i, y);
     let z = l.rmap;
     let front = pick(l.joins, i, at);
@@ -277,7 +265,7 @@ pub fn plan(old: &[u8], e: Edit, x: Rmap) -> Planned
     match found {
         Asked::Refused(q) => Planned::Refused(q),
         Asked::Found(s) => match e {
-            Edit::Insert => place_insert(old, x),
+            Edit::Insert => place_insert(old, x, s),
             Edit::InsertShared => place_shared(old, x, s),
             Edit::Remove => place_remove(old, x, s),
         },
@@ -303,7 +291,7 @@ fn edit(old: &[u8], e: Edit, x: Rmap, new: &mut [u8]) -> Edited
     }
 }
 
-// Takes an extent that nobody holds: questions 19, 20, 22, 23 and 26, then the new list, of which the bytes are said.
+// Takes an extent of which no block is held: questions 19, 20, 22, 23 and 26, then the new list, of which the bytes are said.
 pub fn insert(old: &[u8], x: Rmap, new: &mut [u8]) -> Edited
     ensures said { λ r. ⌜ editedOutcome r ≡ lengthOf rmaps (insertOutcome (now (old .entry)) x (length (now (new .entry)))) ⌝ }
     ensures wrote { λ _. ⌜ now (new .exit) ≡ written rmaps (now (new .entry)) (insertOutcome (now (old .entry)) x (length (now (new .entry)))) ⌝ }
@@ -311,7 +299,8 @@ pub fn insert(old: &[u8], x: Rmap, new: &mut [u8]) -> Edited
     edit(old, Edit::Insert, x, new)
 }
 
-// The same where mappings may share blocks.
+// The same for an extent whose blocks others may hold; 23 asks that no record clashes. The counts are left alone, so they may no longer agree
+// with the new list: `take_held` of crate groups is the call for held blocks, and histories take by that.
 pub fn insert_shared(old: &[u8], x: Rmap, new: &mut [u8]) -> Edited
     ensures said { λ r. ⌜ editedOutcome r ≡ lengthOf rmaps (insertSharedOutcome (now (old .entry)) x (length (now (new .entry)))) ⌝ }
     ensures wrote { λ _. ⌜ now (new .exit) ≡ written rmaps (now (new .entry)) (insertSharedOutcome (now (old .entry)) x (length (now (new .entry)))) ⌝ }

@@ -16,7 +16,7 @@ ghost use Prim.Native.Nat.{_≤_};
 ghost use lib.Dec.{ltb, eqb};
 ghost use Rattle.codec.specs.Records.{recordsOf, rmaps};
 ghost use Rattle.codec.specs.Rmaps.{flags, good, follows, accepted};
-ghost use Rattle.lists.specs.RmapEdits.{continues, clash, contains, linesUp};
+ghost use Rattle.lists.specs.RmapEdits.{continues, overlaps, clash, contains, linesUp};
 ghost use Rattle.lists.specs.RmapPlans.{alike, indexWhere, touches, tests, seat, noteOf, Noted, ScanIs, AskedIs};
 
 // The bytes of a record.
@@ -63,14 +63,21 @@ fn lines_up(x: Rmap, r: Rmap) -> bool
     r.offset % OFF_LIMIT + x.startblock as u64 == x.offset % OFF_LIMIT + r.startblock as u64
 }
 
-// Do x and r overlap as no two shared mappings may?
-fn clash(x: Rmap, r: Rmap) -> bool
-    ensures { λ t. ⌜ t ≡ clash x r ⌝ }
+// Have x and r a block in common?
+fn overlaps(x: Rmap, r: Rmap) -> bool
+    ensures { λ t. ⌜ t ≡ overlaps x r ⌝ }
 {
     if x.startblock as u64 + x.blockcount as u64 <= r.startblock as u64 {
         return false;
     }
-    if r.startblock as u64 + r.blockcount as u64 <= x.startblock as u64 {
+    (x.startblock as u64) < r.startblock as u64 + r.blockcount as u64
+}
+
+// Do x and r overlap as no two shared mappings may?
+fn clash(x: Rmap, r: Rmap) -> bool
+    ensures { λ t. ⌜ t ≡ clash x r ⌝ }
+{
+    if !overlaps(x, r) {
         return false;
     }
     if exempt(x) {
@@ -101,7 +108,7 @@ fn hits(e: Edit, x: Rmap, r: Rmap) -> Hits
 {
     match e {
         Edit::Insert => Hits {
-            first: false,
+            first: overlaps(x, r),
             second: false,
             third: false,
         },

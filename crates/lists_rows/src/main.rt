@@ -53,10 +53,18 @@ fn extent(startblock: u32, blockcount: u32, owner: u64, offset: u64) -> Rmap {
 }
 
 fn edits() {
-    // 4/4 of owner 7 alone; insert 2/4 of owner 9: accepted
+    // 4/4 of owner 7 alone; insert 2/4 of owner 9 would run into it: 23
     let four = b"\0\0\0\x04\0\0\0\x04\0\0\0\0\0\0\0\x07\0\0\0\0\0\0\0\0";
     row(b"insert 2/4", Edit::Insert, four, extent(2, 4, 9, 0));
+    row(b"insert 2/2", Edit::Insert, four, extent(2, 2, 9, 0));
     row(b"insert 7/1", Edit::Insert, four, extent(7, 1, 9, 0));
+    // 0/3 of owner 1 and 0/1 of owner 2: the last record that starts at or before 1/1 ends in time, and yet the first lies over it
+    row(
+        b"insert 1/1 under 0/3",
+        Edit::Insert,
+        b"\0\0\0\0\0\0\0\x03\0\0\0\0\0\0\0\x01\0\0\0\0\0\0\0\0\0\0\0\0\0\0\0\x01\0\0\0\0\0\0\0\x02\0\0\0\0\0\0\0\0",
+        extent(1, 1, 3, 0),
+    );
     row(b"insert 8/4 at 4", Edit::Insert, four, extent(8, 4, 7, 4));
     row(b"insert 8/0", Edit::Insert, four, extent(8, 0, 7, 4));
     row(

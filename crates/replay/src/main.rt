@@ -1,5 +1,6 @@
-// Replays cases from standard input and compares answers, figures and every byte of lent memory with those that the Rust original gave, or,
-// for trees of real volumes, with what another tool printed. docs/REPLAY.md has the layout of a case and says how the cases were made.
+// Replays cases from standard input and compares answers, figures and every byte of lent memory with those that the Rust original gave, or a
+// definition where it has no such call, or, for trees of real volumes, with what another tool printed. docs/REPLAY.md has the layout of a case
+// and says how the cases were made.
 ghost use mathlib.Core.Path.{_≡_};
 ghost use lib.ListN.{length};
 use codec::endian::be32;
@@ -13,6 +14,7 @@ use exports::list_calls::kf_insert_shared;
 use exports::list_calls::kf_let_go;
 use exports::list_calls::kf_release;
 use exports::list_calls::kf_remove;
+use exports::list_calls::kf_take_held;
 use exports::tree_calls::kf_build;
 use exports::tree_calls::kf_plan;
 use exports::tree_calls::kf_walk;
@@ -369,6 +371,28 @@ fn on_let_go(
     said_as_due(head, answer, said)
 }
 
+fn on_take_held(
+    head: &[u8],
+    map: &[u8],
+    counts: &[u8],
+    new_map: &mut [u8],
+    new_counts: &mut [u8],
+) -> bool {
+    let mut said = [0xA5u64; 4];
+    let answer = kf_take_held(
+        map,
+        counts,
+        number(head, 19),
+        number(head, 20),
+        wide(head, 21),
+        wide(head, 23),
+        new_map,
+        new_counts,
+        &mut said,
+    );
+    said_as_due(head, answer, said)
+}
+
 // The call of a case on its two inputs and three outputs: are answer and figures the same, and what is not in an output?
 fn call_as_due(
     head: &[u8],
@@ -390,6 +414,7 @@ fn call_as_due(
         11 => on_release(head, a, x, y),
         12 => on_let_go(head, a, b, x, y, z),
         13 => on_real_walk(head, b, x),
+        14 => on_take_held(head, a, b, x, y),
         _ => false,
     }
 }

@@ -10,7 +10,7 @@ use Rattle.lists.specs.declared.rmap_plans.Edit.the-variants.{InsertShar
 use Rattle.lists.specs.RmapPlans.{tests}
 use Rattle.lists.proofs.Joining.{low-end}
 use Rattle.lists.proofs.Planning.{shared-parts, shared-good}
-use Rattle.lists.proofs.Placing.{found-le, good-end, clash-found, clash-none, planned-is, refused-is}
+use Rattle.lists.proofs.Placing.{found-le, good-end, none-found, one-found, planned-is, refused-is}
 use borrow.Author.Needs.{needs}
 use Rattle.lists.proofs.rmap_edits.place_shared.Statement.{statement}
 use Rattle.lists.proofs.rmap_edits.place_shared.Tie as tie
@@ -21,7 +21,7 @@ returns c =
     let b = now (c .before .before .before .args .old) in
     let g = c .before .before .before .pre .0 in
     let f = c .before .before .before .pre .1 in
-    refused-is InsertShared b _ g why.Overlap (clash-found b _ _ (f .first) (c .if1 .taken)) refl refl
+    refused-is InsertShared b _ g why.Overlap (one-found _ b _ (f .first) (c .if1 .taken)) refl refl
 
 join-at-requires : tie.Need-join-at-requires
 join-at-requires c κs = (c .before .before .before .pre .0 .ordered, good-end _ (c .before .before .before .pre .0 .extent))
@@ -61,7 +61,7 @@ returns-2 c =
     let b = now (c .before .before .before .before .before .before .before .before .before .before .before .before .args .old) in
     let g = c .before .before .before .before .before .before .before .before .before .before .before .before .pre .0 in
     let f = c .before .before .before .before .before .before .before .before .before .before .before .before .pre .1 in
-    planned-is InsertShared b _ g _ _ (clash-none b _ _ (f .first) (c .before .before .before .before .before .before .before .before .before .if1 .left)) (shared-parts b (c .before .before .before .before .before .before .before .before .before .before .before .before .args .x) g _ (sym (length-recordsOf rmaps b)) _ _ _ _ _ _ _ _ (f .second) (c .before .before .before .before .before .before .before .before .join-at .ensures) (f .third) (c .before .before .before .before .before .before .join-at2 .ensures) (c .before .before .before .before .seat .ensures) (c .before .before .before .pick .ensures) (c .before .before .pick2 .ensures) (c .before .pick3 .ensures) _) (c .ready .ensures)
+    planned-is InsertShared b _ g _ _ (none-found _ b _ (f .first) (c .before .before .before .before .before .before .before .before .before .if1 .left)) (shared-parts b (c .before .before .before .before .before .before .before .before .before .before .before .before .args .x) g _ (sym (length-recordsOf rmaps b)) _ _ _ _ _ _ _ _ (f .second) (c .before .before .before .before .before .before .before .before .join-at .ensures) (f .third) (c .before .before .before .before .before .before .join-at2 .ensures) (c .before .before .before .before .seat .ensures) (c .before .before .before .pick .ensures) (c .before .before .pick2 .ensures) (c .before .pick3 .ensures) _) (c .ready .ensures)
 
 pub place-shared-spec : {M : Type 1} → statement M
 place-shared-spec =

@@ -28,7 +28,7 @@ place-insert-requires c κs =
     let a = c .before .before .before .before .before .before .before .args in
     let b = now (a .old) in
     let q : AskedIs (a .e) b (a .x) (Found (c .before .before .before .found2 .given .0 .0)) = subst (AskedIs (a .e) b (a .x)) (c .before .before .before .found2 .given .1) (c .before .before .before .before .before .asked .ensures) in
-    q .0
+    (q .0, subst (λ (e : Edit). Finds e (a .x) (recordsOf rmaps b) (c .before .before .before .found2 .given .0 .0)) (c .enum-told .given .1) (q .1))
 
 enum-told-2 : tie.Need-enum-told-2
 enum-told-2 c = search needs

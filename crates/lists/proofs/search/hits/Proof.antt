@@ -10,6 +10,9 @@ use Rattle.lists.proofs.search.hits.Tie as tie
 enum-told : tie.Need-enum-told
 enum-told c = search needs
 
+overlaps-requires : tie.Need-overlaps-requires
+overlaps-requires c κs = search needs
+
 enum-told-2 : tie.Need-enum-told-2
 enum-told-2 c = search needs
 
@@ -35,7 +38,7 @@ lines-up-requires : tie.Need-lines-up-requires
 lines-up-requires c κs = search needs
 
 returns-2 : tie.Need-returns-2
-returns-2 c = hits-insert _ _ _ (c .enum-told .given .1)
+returns-2 c = hits-insert _ _ _ _ (c .before .enum-told .given .1) (c .overlaps .ensures)
 
 returns-3 : tie.Need-returns-3
 returns-3 c = hits-shared _ _ _ _ _ _ (c .before .before .before .enum-told2 .given .1) (c .before .before .clash .ensures) (c .before .continues .ensures) (c .continues2 .ensures)
@@ -48,6 +51,7 @@ hits-spec =
     tie.close
     (tie.spec
     enum-told
+    overlaps-requires
     enum-told-2
     clash-requires
     continues-requires
