@@ -62,7 +62,7 @@ uint32_t kf_insert(const uint8_t *old, size_t old_len, uint32_t startblock, uint
  * with the reverse map: kf_take_held is the call for held blocks. */
 uint32_t kf_insert_shared(const uint8_t *old, size_t old_len, uint32_t startblock, uint32_t blockcount, uint64_t owner, uint64_t offset,
                           uint8_t *fresh, size_t fresh_len, uint64_t said[4]);
-/* An extent given up: 24 if no record of that owner contains it. */
+/* An extent given up: 24 if no record of its owner and flags contains it. */
 uint32_t kf_remove(const uint8_t *old, size_t old_len, uint32_t startblock, uint32_t blockcount, uint64_t owner, uint64_t offset,
                    uint8_t *fresh, size_t fresh_len, uint64_t said[4]);
 

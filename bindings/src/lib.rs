@@ -43,7 +43,7 @@
 //! | 20, 21 | is it an accepted reverse map? are they accepted shared counts? |
 //! | 22 | is the extent good? |
 //! | 23 | in a first take, is no block of the extent held? in a shared one, does no overlapping record clash? |
-//! | 24 | does a record of the extent's owner contain it? |
+//! | 24 | does a record of the extent's owner and flags contain it? |
 //! | 25 | is it clear of staging records? |
 //! | 26 | do the new lists fit what was lent? |
 //! | 27 | in a take of held blocks, is every block held? |

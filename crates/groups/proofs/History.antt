@@ -22,7 +22,7 @@ use Rattle.lists.proofs.Counts as C
 use Rattle.lists.proofs.Laws.{Taken, insert-law, insert-unheld}
 use Rattle.groups.specs.LetGo.{Gone, letGoOutcome}
 use Rattle.groups.specs.TakeHeld.{Both, takeHeldOutcome}
-use Rattle.groups.specs.History.{Lists, Accepted, Agreeing, held, Change, take, takeHeld, letGo, Left, took, tookHeld, went, step, after, covered, taken, gone, run, takes, letsGo, Start, EveryHistory}
+use Rattle.groups.specs.History.{Lists, Accepted, Agreeing, held, Change, take, takeHeld, letGo, Left, took, tookHeld, went, step, after, covered, taken, gone, run, takes, letsGo, EveryHistory}
 use Rattle.groups.proofs.Agreement.{agree-letGo, agree-take, agree-raise, unshared-unheld}
 use Rattle.groups.proofs.Letting.{letGo-law}
 use Rattle.groups.proofs.TakingAll.{takeHeld-law}

@@ -1,5 +1,6 @@
 -- Histories: lists of takes and lets go, refused ones included, run from a reverse map and counts, and what is claimed of each of them.
--- The statement is `EveryHistory`, at the end; what it speaks of stands before it. proofs/History.antt proves it.
+-- The statement is `EveryHistory`, at the end; what it speaks of stands before it. proofs/History.antt proves it, and proofs/Example.antt has a
+-- history with shared blocks from such a start.
 -- Assumes nothing.
 use Prim.Native.Nat.{ℕ, _+_, _*_, _≤_, max}
 use mathlib.Core.Bool.{Bool, true, false, not, _&&_, _||_}
@@ -81,8 +82,8 @@ held σ b = holders (recordsOf rmaps (σ .map)) b
 
 -- ---- one change
 
--- first takes by `insert`, takes of held blocks, and lets go, with any extents and output lengths. An extent taken comes with the fact that its
--- numbers are those of its fields, as every record's in memory are: it is stored as it is.
+-- first takes by `insert`, takes of held blocks, and lets go, with any extents and output lengths. The numbers of an extent that is taken fit
+-- their fields, as in memory: the change carries that.
 pub data Change : Type 0 where
   take : (x : Rmap) → RmapFits x → (room : ℕ) → Change
   takeHeld : (x : Rmap) → RmapFits x → (room countsRoom : ℕ) → Change
@@ -103,7 +104,7 @@ tookHeld g = record { lists = record { map = bytesOf rmaps (g .map); counts = by
 abbrev pub went : Gone → Left
 went g = record { lists = record { map = bytesOf rmaps (g .map); counts = bytesOf refcounts (g .counts) }; free = g .free }
 
--- each outcome is the one 01 defines, with 02's 23 of a first take, and 02's for a take of held blocks
+-- each outcome is the one 01 defines, 23 of a first take being 02's, or 02 for a take of held blocks
 unfoldable pub step : Lists → Change → Outcome Left
 step σ (take x fits room) = mapOutcome (took σ) (insertOutcome (σ .map) x room)
 step σ (takeHeld x fits room countsRoom) = mapOutcome tookHeld (takeHeldOutcome (σ .map) (σ .counts) x room countsRoom)

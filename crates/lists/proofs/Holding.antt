@@ -1,7 +1,7 @@
 -- Every block of an extent is held exactly if the records, in order, reach from its start to its end; and none is exactly if no record overlaps it.
 -- Assumes nothing.
 use Prim.Native.Nat.{ℕ, zero, suc, _+_, _*_, _/_, _≤_, _<_, max}
-use mathlib.Core.Bool.{Bool, true, false, cond, _&&_}
+use mathlib.Core.Bool.{Bool, true, false, cond}
 use mathlib.Core.Path.{_≡_, refl, sym, _∙_}
 use mathlib.Core.List.{List, [], _∷_}
 use native.Mathlib.Omega.{arith}
@@ -10,8 +10,8 @@ use lib.Dec.{ltb, leb, eqb}
 use lib.ListN.{length, drop, drop-of-length-le}
 use borrow.Author.Tests.{lt-ltb, le-ltb, le-leb, lt-leb, eq-eqb, ne-eqb}
 use Rattle.codec.specs.Bytes.{bytesAt}
-use Rattle.codec.specs.Records.{Kind, recordsOf, rmaps}
-use Rattle.codec.specs.Rmaps.{end, least, good, accepted}
+use Rattle.codec.specs.Records.{recordsOf, rmaps}
+use Rattle.codec.specs.Rmaps.{end, least, accepted}
 use Rattle.codec.specs.declared.rmap.Rmap.{Rmap}
 use Rattle.codec.proofs.RecordLists.{length-recordsOf, recordsOf-next}
 use Rattle.lists.specs.Extent.{over, within}

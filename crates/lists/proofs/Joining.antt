@@ -1,8 +1,8 @@
 -- The tests of the code on two records, and a record joined to one of the list.
 -- Assumes nothing.
-use Prim.Native.Nat.{ℕ, suc, _+_, _%_, _^_, _≤_, _<_}
+use Prim.Native.Nat.{ℕ, suc, _+_, _^_, _≤_, _<_}
 use mathlib.Core.Path.{_≡_, refl, sym, ap, _∙_}
-use mathlib.Core.Bool.{Bool, true, false, not, cond, _&&_, _||_, and-false}
+use mathlib.Core.Bool.{Bool, true, false, cond, _&&_, _||_, and-false}
 use mathlib.Core.List.{List, _∷_, _++_}
 use native.Mathlib.Omega.{arith}
 use lib.Dec.{ltb, leb, eqb}
@@ -14,7 +14,7 @@ use Rattle.codec.specs.declared.rmap.Rmap.{Rmap}
 use Rattle.lists.specs.declared.rmap_plans.Joined.{Joined}
 use Rattle.lists.specs.RmapEdits.{continues, joined, attach, overlaps, clash, contains, linesUp}
 use Rattle.lists.specs.RmapPlans.{alike, joinAt}
-use Rattle.lists.proofs.Cases.{split, tests, conj, and-l, and-r}
+use Rattle.lists.proofs.Cases.{split, tests, conj}
 use Rattle.lists.proofs.Found.{continues-end}
 use Rattle.lists.proofs.RmapOrder.{each, accepted-facts}
 

@@ -3,15 +3,15 @@
 use Prim.Native.Nat.{ℕ, _+_, _-_, _*_, _/_, _%_, _^_, _≤_, _<_}
 use native.Mathlib.Omega.{arith}
 use mathlib.Core.Path.{_≡_, refl, sym, ap, _∙_}
-use mathlib.Core.Bool.{Bool, true, false, not, cond, _&&_, _||_}
-use mathlib.Core.List.{List, [], _∷_, _++_}
-use lib.Dec.{ltb, leb, eqb}
+use mathlib.Core.Bool.{Bool, true, false, not, cond}
+use mathlib.Core.List.{List, [], _∷_}
+use lib.Dec.{leb, eqb}
 use lib.ListN.{length, getD}
 use borrow.Author.Tests.{lt-ltb, le-ltb, le-leb, lt-leb, eqb-false}
 use Rattle.codec.specs.Bytes.{bytesAt, withBytes}
-use Rattle.codec.specs.Question.{none, Outcome, done, refused, Question, answer}
-use Rattle.codec.specs.Records.{Kind, recordsOf, bytesOf, rmaps}
-use Rattle.codec.specs.Rmaps.{end, fileOffset, flags, reserved, mapping, exempt, least, accepted, good}
+use Rattle.codec.specs.Question.{none, done, refused}
+use Rattle.codec.specs.Records.{recordsOf, bytesOf, rmaps}
+use Rattle.codec.specs.Rmaps.{end, flags, reserved, mapping, exempt, least, accepted, good}
 use Rattle.codec.specs.declared.rmap.Rmap.{Rmap}
 use Rattle.codec.proofs.RecordLists.{length-recordsOf}
 use Rattle.lists.specs.declared.EditRefusal.{EditRefusal}
@@ -19,21 +19,20 @@ use Rattle.lists.specs.declared.EditRefusal.the-variants as why
 use Rattle.lists.specs.declared.Edited.the-variants as said
 use Rattle.lists.specs.declared.rmap_plans.Asked.the-variants as asked
 use Rattle.lists.specs.declared.rmap_plans.Edit.{Edit}
-use Rattle.lists.specs.declared.rmap_plans.Joined.{Joined}
 use Rattle.lists.specs.declared.rmap_plans.Part.{Part}
 use Rattle.lists.specs.declared.rmap_plans.Plan.{Plan}
 use Rattle.lists.specs.declared.rmap_plans.Planned.{Planned}
 use Rattle.lists.specs.declared.rmap_plans.Planned.the-variants as planned
 use Rattle.lists.specs.Held.{heldNone}
 use Rattle.lists.specs.RmapEdits.{any, continues, joined, overlaps, later}
-use Rattle.lists.specs.Edits.{fits, written}
+use Rattle.lists.specs.Edits.{written}
 use Rattle.lists.specs.Answer.{editNumber, editedOutcome, lengthOf}
 use Rattle.lists.specs.RmapPlans.{allowed, edited, editBefore26, editOutcome, indexWhere, noOverlap, joinAt, partsOf, partCount, listOf, PartsGood, PlanGood, TakeGood, AskedIs, PlanIs, PlannedGood, plannedOutcome, roomed}
-use Rattle.lists.proofs.Cases.{split, tests, or-l}
+use Rattle.lists.proofs.Cases.{or-l}
 use Rattle.lists.proofs.Index.{index-le, any-index}
 use Rattle.lists.proofs.Holding.{overlaps-tell}
 use Rattle.lists.proofs.RmapOrder.{fileEnd, each, accepted-facts, good-facts, facts-good}
-use Rattle.lists.proofs.Joining.{lower, upper, join-out, join-miss, join-hit, join-fits}
+use Rattle.lists.proofs.Joining.{join-out, join-miss, join-hit, join-fits}
 use Rattle.lists.proofs.Scanning.{read-at}
 use Rattle.lists.proofs.Writing.{size-good}
 use Rattle.lists.proofs.Planning.{plan-done, plan-refused, room-asked}

@@ -1,33 +1,30 @@
 -- The plans are the edits: their parts, and their questions.
 -- Assumes nothing.
-use Prim.Native.Nat.{ℕ, zero, suc, _+_, _-_, _%_, _/_, _≤_, _<_}
+use Prim.Native.Nat.{ℕ, zero, suc, _+_, _-_, _%_, _≤_, _<_}
 use native.Mathlib.Omega.{arith}
 use native.Mathlib.Nat.{sub-self}
 use native.Mathlib.Numerals.{add-one}
 use mathlib.Core.Path.{_≡_, refl, sym, ap, _∙_}
 use mathlib.Core.Bool.{Bool, true, false, cond}
 use mathlib.Core.List.{List, [], _∷_, _++_, append-assoc, append-nil}
-use lib.Dec.{ltb, leb}
+use lib.Dec.{ltb}
 use lib.ListN.{length, getD, take, drop, drop-of-length-le}
-use borrow.Author.Tests.{eq-eqb, ne-eqb, le-leb, lt-leb, lt-ltb, le-ltb}
+use borrow.Author.Tests.{eq-eqb, ne-eqb}
 use Rattle.codec.specs.Question.{none, Outcome, done, refused, Question, ask, answer}
-use Rattle.codec.specs.Records.{recordsOf, bytesOf, rmaps}
+use Rattle.codec.specs.Records.{recordsOf, rmaps}
 use Rattle.codec.specs.Accepted.{whole}
 use Rattle.codec.specs.Rmaps.{end, follows, least, accepted, good}
 use Rattle.codec.specs.declared.check.ListRefusal.the-variants.{Length, RmapOrder}
 use Rattle.codec.specs.declared.rmap.Rmap.{Rmap}
-use Rattle.codec.proofs.RecordLists.{length-recordsOf}
-use Rattle.lists.specs.declared.EditRefusal.{EditRefusal}
 use Rattle.lists.specs.declared.EditRefusal.the-variants as why
 use Rattle.lists.specs.declared.Edited.the-variants as said
 use Rattle.lists.specs.declared.rmap_plans.Edit.{Edit}
 use Rattle.lists.specs.declared.rmap_plans.Edit.the-variants.{Insert, InsertShared, Remove}
 use Rattle.lists.specs.declared.rmap_plans.Joined.{Joined}
-use Rattle.lists.specs.declared.rmap_plans.Plan.{Plan}
 use Rattle.lists.specs.RmapEdits.{insert, insertShared, contained, remove, continues, joined, chosen, front, later}
-use Rattle.lists.specs.Edits.{mapQuestions, fits, written, insertOutcome, insertSharedOutcome, removeOutcome}
-use Rattle.lists.specs.Answer.{editNumber, editedOutcome, lengthOf}
-use Rattle.lists.specs.RmapPlans.{allowed, edited, editBefore26, editOutcome, indexWhere, seat, previous, joinAt, run, partsOf, partCount, listOf, PartsGood, PlanGood, TakeGood, roomed}
+use Rattle.lists.specs.Edits.{mapQuestions, fits, insertOutcome, insertSharedOutcome, removeOutcome}
+use Rattle.lists.specs.Answer.{editNumber}
+use Rattle.lists.specs.RmapPlans.{allowed, edited, editBefore26, editOutcome, indexWhere, seat, previous, run, partsOf, PartsGood, TakeGood, roomed}
 use Rattle.lists.proofs.Cases.{split, tests}
 use Rattle.lists.proofs.Found.{contains-ends}
 use Rattle.lists.proofs.Index.{index-le}

@@ -9,7 +9,7 @@ use lib.Dec.{ltb, leb, eqb}
 use lib.ListN.{length, getD, drop}
 use borrow.Author.Tests.{le-leb, lt-leb, lt-ltb, le-ltb}
 use Rattle.codec.specs.Bytes.{bytesAt}
-use Rattle.codec.specs.Records.{Kind, recordsOf, rmaps}
+use Rattle.codec.specs.Records.{recordsOf, rmaps}
 use Rattle.codec.specs.Accepted.{inOrder}
 use Rattle.codec.specs.Rmaps.{end, keyOffset, before, good, follows, least, accepted}
 use Rattle.codec.specs.declared.rmap.Rmap.{Rmap}
@@ -20,7 +20,7 @@ use Rattle.lists.specs.declared.rmap_plans.Edit.the-variants.{Insert, In
 use Rattle.lists.specs.declared.rmap_plans.Hits.{Hits}
 use Rattle.lists.specs.declared.rmap_plans.Scan.{Scan}
 use Rattle.lists.specs.RmapEdits.{continues, overlaps, clash, contains, linesUp}
-use Rattle.lists.specs.RmapPlans.{indexWhere, seat, touches, tests, noteOf, Noted, Finds, ScanIs}
+use Rattle.lists.specs.RmapPlans.{indexWhere, seat, touches, tests, noteOf, Noted, ScanIs}
 use Rattle.lists.proofs.Cases.{split, tests as facts, and-l, and-r, and-true}
 use Rattle.lists.proofs.Found.{overlaps-ends, contains-ends, continues-end}
 use Rattle.lists.proofs.Index.{index-le, index-same, seen, seen-none, seen-le, seen-next, seen-all}

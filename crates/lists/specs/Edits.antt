@@ -1,7 +1,7 @@
 -- What each edit of a list comes to: document 01's questions in order, then the new list. A list is lent bytes, and `room` is how many bytes
 -- were lent for the new one.
 -- Assumes nothing.
-use Prim.Native.Nat.{ℕ, _+_, _*_}
+use Prim.Native.Nat.{ℕ, _+_}
 use mathlib.Core.Bool.{Bool, _&&_}
 use mathlib.Core.List.{List, [], _∷_, _++_}
 use lib.Dec.{leb}
@@ -32,12 +32,14 @@ countQuestions c = ask 19 (whole 12 c) ∷ ask 21 (refcount.accepted (recordsOf 
 abbrev pub fits : {R : Type 0} → Kind R → List R → ℕ → Bool
 fits k rs room = leb (length (bytesOf k rs)) room
 
+-- a first take: 23 asks that no block of the extent is held
 unfoldable pub insertOutcome : List ℕ → Rmap → ℕ → Outcome (List Rmap)
 insertOutcome b x room =
     let l : List Rmap = recordsOf rmaps b in
     answer (mapQuestions b x ++ (ask 23 (heldNone l (x .startblock) (x .blockcount)) ∷ ask 26 (fits rmaps (rmaps-after.insert x l) room) ∷ []))
     (done (rmaps-after.insert x l))
 
+-- a take of an extent whose blocks others may hold: 23 asks that no overlapping record clashes
 unfoldable pub insertSharedOutcome : List ℕ → Rmap → ℕ → Outcome (List Rmap)
 insertSharedOutcome b x room =
     let l : List Rmap = recordsOf rmaps b in

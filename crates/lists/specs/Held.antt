@@ -16,6 +16,6 @@ eachBlock p b (suc n) = p b && eachBlock p (suc b) n
 abbrev pub heldAll : List Rmap → ℕ → ℕ → Bool
 heldAll l start count = eachBlock (λ b. ltb 0 (holders l b)) start count
 
--- 23 of `insert`: is no block of the extent held?
+-- 23 of `insert`: is no block of the extent held? (`OverlapsTell` of specs/RmapPlans.antt has it by the records.)
 abbrev pub heldNone : List Rmap → ℕ → ℕ → Bool
 heldNone l start count = eachBlock (λ b. eqb (holders l b) 0) start count

@@ -1,6 +1,6 @@
 -- An extent taken or given up: the edits of the reverse map, as a list of records.
 -- Assumes nothing.
-use Prim.Native.Nat.{ℕ, _+_, _-_, _*_}
+use Prim.Native.Nat.{_+_, _-_}
 use mathlib.Core.Bool.{Bool, true, false, not, cond, _&&_, _||_}
 use mathlib.Core.List.{List, [], _∷_, _++_}
 use mathlib.Core.Option.{Option, none, some}
@@ -48,7 +48,7 @@ continues r s =
 abbrev pub joined : Rmap → Rmap → Rmap
 joined r s = record { startblock = r .startblock; blockcount = r .blockcount + s .blockcount; owner = r .owner; offset = r .offset }
 
--- ---- insert
+-- ---- insert; its 23 is `heldNone` of specs/Held.antt
 
 -- r before the list l, joined to its first record where that continues r
 unfoldable pub attach : Rmap → List Rmap → List Rmap

@@ -13,7 +13,7 @@ use codec::rmap::good;
 ghost use mathlib.Core.Path.{_≡_};
 ghost use mathlib.Core.Bool.{true, _&&_};
 ghost use Prim.Native.Nat.{_≤_};
-ghost use lib.Dec.{ltb, eqb};
+ghost use lib.Dec.{ltb};
 ghost use Rattle.codec.specs.Records.{recordsOf, rmaps};
 ghost use Rattle.codec.specs.Rmaps.{flags, good, follows, accepted};
 ghost use Rattle.lists.specs.RmapEdits.{continues, overlaps, clash, contains, linesUp};

@@ -2,8 +2,8 @@
 -- Assumes nothing.
 use native.Mathlib.Omega.{arith}
 use denote.Ref.{now}
-use mathlib.Core.Path.{refl, sym, _∙_}
-use Rattle.codec.specs.Records.{recordsOf, rmaps}
+use mathlib.Core.Path.{refl, sym}
+use Rattle.codec.specs.Records.{rmaps}
 use Rattle.codec.proofs.RecordLists.{length-recordsOf}
 use Rattle.lists.specs.declared.EditRefusal.the-variants as why
 use Rattle.lists.specs.declared.rmap_plans.Edit.the-variants.{InsertShared}
