@@ -1,6 +1,6 @@
 -- A history in which blocks are shared, from lists that meet `Start`: a first take; a take of two of its blocks by another owner; a first take
 -- refused since one of its blocks is held; the first owner's let go, which frees only what the other does not hold; and the same let go again,
--- refused.
+-- refused. What the theorem says of it stands below the theorem, in History.antt.
 -- Assumes nothing.
 use Prim.Native.Nat.{ℕ, _+_, _<_}
 use mathlib.Core.Path.{_≡_, refl}
@@ -22,11 +22,10 @@ use Rattle.lists.specs.Held as held
 use Rattle.lists.specs.RmapEdits as edits
 use Rattle.lists.specs.Release as release
 use Rattle.lists.specs.Raise as raise
-use Rattle.lists.specs.Edits.{insertOutcome}
+use Rattle.lists.specs.Edits.{insertOutcome, insertSharedOutcome}
 use Rattle.groups.specs.LetGo.{letGoOutcome}
 use Rattle.groups.specs.TakeHeld.{takeHeldOutcome}
-use Rattle.groups.specs.History.{shared, Lists, Accepted, Agreeing, Change, take, takeHeld, letGo, step, after, run, Start, Claim}
-use Rattle.groups.proofs.History.{history}
+use Rattle.groups.specs.History.{shared, Lists, Accepted, Agreeing, Change, take, takeHeld, letGo, step, after, run, Start}
 
 -- ---- the changes
 
@@ -84,17 +83,19 @@ pub record Shares : Type 0 where
   pub taken : step none-held first ≡ done (record { lists = first-lists; free = [] })
   pub taken-held : step first-lists second ≡ done (record { lists = shared-lists; free = [] })
   pub not-taken : step shared-lists third ≡ refused 23 none
+  -- `insert_shared` would take it: two records over block 3, and no shared count
+  pub shared-takes : insertSharedOutcome (shared-lists .map) (record-of 3 2 5 0) 1000 ≡ done (record-of 0 4 7 0 ∷ record-of 1 2 9 0 ∷ record-of 3 2 5 0 ∷ [])
   pub let-go : step shared-lists fourth ≡ done (record { lists = last-lists; free = free-at 0 1 ∷ free-at 3 1 ∷ [] })
   pub not-let-go : step last-lists fourth ≡ refused 24 none
   pub left : run none-held sharing ≡ last-lists
 
 pub shares : Shares
-unfolding none-held run after step insertOutcome takeHeldOutcome letGoOutcome bytes.beOf bytes.beBytes records.fieldsOf records.fieldBytes records.firstRecords records.recordsOf records.bytesOf accepted.whole accepted.inOrder rmap.reserved rmap.mapping rmap.exempt rmap.good rmap.keyOffset rmap.before rmap.follows refcount.staging refcount.good refcount.follows blocks.over blocks.within blocks.grow blocks.runs holding.holders held.eachBlock edits.first edits.isSome edits.replace edits.place edits.continues edits.overlaps edits.attach edits.insertAfter edits.insert edits.clash edits.behind edits.ahead edits.contains edits.linesUp edits.chosen edits.front edits.later edits.placeLater edits.cutOut release.owners release.clear release.piece release.middle release.clamp release.lowered release.lowerAll release.continues release.joinFrom release.joinAll raise.raised raise.raiseAll raise.full raise.ownersFit
-shares = record { taken = refl; taken-held = refl; not-taken = refl; let-go = refl; not-let-go = refl; left = refl }
+unfolding none-held run after step insertOutcome insertSharedOutcome takeHeldOutcome letGoOutcome bytes.beOf bytes.beBytes records.fieldsOf records.fieldBytes records.firstRecords records.recordsOf records.bytesOf accepted.whole accepted.inOrder rmap.reserved rmap.mapping rmap.exempt rmap.good rmap.keyOffset rmap.before rmap.follows refcount.staging refcount.good refcount.follows blocks.over blocks.within blocks.grow blocks.runs holding.holders held.eachBlock edits.first edits.isSome edits.replace edits.place edits.continues edits.overlaps edits.attach edits.insertAfter edits.insert edits.clash edits.behind edits.ahead edits.contains edits.linesUp edits.chosen edits.front edits.later edits.placeLater edits.cutOut release.owners release.clear release.piece release.middle release.clamp release.lowered release.lowerAll release.continues release.joinFrom release.joinAll raise.raised raise.raiseAll raise.full raise.ownersFit
+shares = record { taken = refl; taken-held = refl; not-taken = refl; shared-takes = refl; let-go = refl; not-let-go = refl; left = refl }
 
--- ---- the premises are met, and so the claim
+-- ---- the premises are met
 
-pub none-accepted : Accepted none-held
+none-accepted : Accepted none-held
 unfolding none-held records.recordsOf records.firstRecords accepted.whole accepted.inOrder
 none-accepted =
     record {
@@ -106,9 +107,9 @@ none-accepted =
       counts-order = refl;
     }
 
-pub none-agree : Agreeing none-held
+none-agree : Agreeing none-held
 unfolding none-held records.recordsOf records.firstRecords shared holding.holders
 none-agree b n = (λ e. let z : _≡_ {A = ℕ} 0 1 = cc in (omega arith, omega arith), λ k. absurd (omega arith))
 
-pub sharing-claim : Claim none-held sharing
-sharing-claim = history none-held sharing (record { accepted = none-accepted; agree = none-agree })
+pub none-start : Start none-held
+none-start = record { accepted = none-accepted; agree = none-agree }

@@ -22,11 +22,12 @@ use Rattle.lists.proofs.Counts as C
 use Rattle.lists.proofs.Laws.{Taken, insert-law, insert-unheld}
 use Rattle.groups.specs.LetGo.{Gone, letGoOutcome}
 use Rattle.groups.specs.TakeHeld.{Both, takeHeldOutcome}
-use Rattle.groups.specs.History.{Lists, Accepted, Agreeing, held, Change, take, takeHeld, letGo, Left, took, tookHeld, went, step, after, covered, taken, gone, run, takes, letsGo, EveryHistory}
+use Rattle.groups.specs.History.{Lists, Accepted, Agreeing, held, Change, take, takeHeld, letGo, Left, took, tookHeld, went, step, after, covered, taken, gone, run, takes, letsGo, Claim, EveryHistory}
 use Rattle.groups.proofs.Agreement.{agree-letGo, agree-take, agree-raise, unshared-unheld}
 use Rattle.groups.proofs.Letting.{letGo-law}
 use Rattle.groups.proofs.TakingAll.{takeHeld-law}
 use Rattle.groups.proofs.Returning.{returned}
+use Rattle.groups.proofs.Example.{none-held, sharing, none-start}
 
 -- ---- from lists to lists
 
@@ -221,3 +222,7 @@ history σ cs s =
       map-returned = returned kind.Rmap (run σ cs .map) (k .accepted .map-bytes) (k .accepted .map-whole) (k .accepted .map-order);
       counts-returned = returned kind.Refcount (run σ cs .counts) (k .accepted .counts-bytes) (k .accepted .counts-whole) (k .accepted .counts-order);
     }
+
+-- and so of the history with shared blocks
+pub sharing-claim : Claim none-held sharing
+sharing-claim = history none-held sharing none-start

@@ -2,10 +2,10 @@ pub mod Agreement
 pub mod Letting
 pub mod Returning
 pub mod TakingAll
+pub mod Example
 pub mod History
 pub mod Table
 pub mod Asking
-pub mod Example
 pub mod Measuring
 pub mod HeldQuestions
 pub mod TakingHeld
