@@ -20,7 +20,7 @@ use Rattle.codec.specs.declared.free_extent.FreeExtent.{FreeExtent}
 use Rattle.codec.proofs.Meaning.{done-means}
 use Rattle.codec.proofs.RecordKinds.{rmaps-lawful, refcounts-lawful}
 use Rattle.codec.proofs.ListBytes.{storable-recordsOf}
-use Rattle.lists.specs.Extent.{over, within, goodExtent}
+use Rattle.lists.specs.Extent.{over, within, goodExtent, lies, Apart}
 use Rattle.lists.specs.Holders.{holders}
 use Rattle.lists.specs.Held.{heldNone}
 use Rattle.lists.specs.RmapEdits.{insert, unclashed, insertShared, contained, remove}
@@ -35,7 +35,7 @@ use Rattle.lists.proofs.Holders.{holders-insert, holders-insertShared, 
 use Rattle.lists.proofs.Holding.{overlaps-tell, unheld-means}
 use Rattle.lists.proofs.Counts as C
 use Rattle.lists.proofs.Fits.{storable-insert, storable-insertShared, storable-remove, storable-release, storable-unshared}
-use Rattle.lists.proofs.Longest.{lies, Apart, lies-runs, apart-runs}
+use Rattle.lists.proofs.Longest.{lies-runs, apart-runs}
 
 -- ---- the reverse map
 

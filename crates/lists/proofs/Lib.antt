@@ -30,3 +30,5 @@ pub mod Staged
 pub mod Releasing
 pub mod RaiseExits
 pub mod Staying
+pub mod Settling
+pub mod OnlyCounts

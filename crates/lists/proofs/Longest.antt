@@ -1,26 +1,16 @@
 -- What `runs` means: its extents lie over exactly the blocks that pass the test, ascending, and each is as long as it can be, since at least
--- one block lies between it and the next.
+-- one block lies between it and the next: it is `Longest` of specs/Extent.antt, for every test, and no other list is.
 -- Assumes nothing.
 use Prim.Native.Nat.{ℕ, zero, suc, _+_, _≤_, _<_}
-use mathlib.Core.Bool.{Bool, true, false, _&&_, _||_}
-use mathlib.Core.Path.{_≡_, refl, sym, _∙_}
+use mathlib.Core.Bool.{Bool, true, false, _&&_}
+use mathlib.Core.Path.{_≡_, refl, sym, ap₂, _∙_}
 use mathlib.Core.List.{List, [], _∷_}
 use native.Mathlib.Omega.{arith}
 use lib.Dec.{leb, eqb}
-use borrow.Author.Tests.{le-ltb, eqb-false}
+use borrow.Author.Tests.{le-ltb, lt-leb, eqb-false}
 use Rattle.codec.specs.declared.free_extent.FreeExtent.{FreeExtent}
-use Rattle.lists.specs.Extent.{over, grow, runs}
+use Rattle.lists.specs.Extent.{over, grow, runs, lies, Apart, Longest}
 use Rattle.lists.proofs.Cases.{split, tests, over-facts, facts-over}
-
--- does one of the extents lie over block b?
-unfoldable pub lies : List FreeExtent → ℕ → Bool
-lies [] b = false
-lies (f ∷ fs) b = over (f .startblock) (f .blockcount) b || lies fs b
-
--- none begins before a, none is empty, and a block lies between each and the next
-abbrev pub Apart : ℕ → List FreeExtent → Type 0
-Apart a [] = Unit {0}
-Apart a (f ∷ fs) = (a ≤ f .startblock) × (0 < f .blockcount) × Apart (suc (f .startblock + f .blockcount)) fs
 
 -- ---- the blocks
 
@@ -89,3 +79,73 @@ apart-runs p s (suc n) =
     split (p s)
     (λ e. rw e (apart-grow s (runs p (suc s) n) (apart-runs p (suc s) n)))
     (λ e. rw e (apart-weaken s (suc s) (runs p (suc s) n) (omega arith) (apart-runs p (suc s) n)))
+
+pub longest-runs : (p : ℕ → Bool) (s n : ℕ) → Longest p s n (runs p s n)
+longest-runs p s n = record { blocks = lies-runs p s n; apart = apart-runs p s n }
+
+-- ---- and no other list is so
+
+over-left : (s c b : ℕ) → b < s → over s c b ≡ false
+unfolding over
+over-left s c b h = rw (lt-leb s b h) refl
+
+over-right : (s c b : ℕ) → s + c ≤ b → over s c b ≡ false
+unfolding over
+over-right s c b h = split (leb s b) (λ e. rw (e, le-ltb b (s + c) h) refl) (λ e. rw e refl)
+
+-- nothing lies before the first, and what lies behind it is of the rest
+lies-before : (a : ℕ) (fs : List FreeExtent) (b : ℕ) → Apart a fs → b < a → lies fs b ≡ false
+unfolding lies
+lies-before a [] b h l = refl
+lies-before a (f ∷ fs) b h l =
+    rw (over-left (f .startblock) (f .blockcount) b (omega (arith, h .0)), lies-before (suc (f .startblock + f .blockcount)) fs b (h .2) (omega (arith, h .0))) refl
+
+lies-first : (f : FreeExtent) (fs : List FreeExtent) (b : ℕ) → f .startblock ≤ b → b < f .startblock + f .blockcount → lies (f ∷ fs) b ≡ true
+unfolding lies
+lies-first f fs b h k = rw (facts-over (f .startblock) (f .blockcount) b h k) refl
+
+lies-behind : (f : FreeExtent) (fs : List FreeExtent) (b : ℕ) → f .startblock + f .blockcount ≤ b → lies (f ∷ fs) b ≡ lies fs b
+unfolding lies
+lies-behind f fs b h = rw (over-right (f .startblock) (f .blockcount) b h) refl
+
+clash : (t u : Bool) → t ≡ u → t ≡ true → u ≡ false → ⊥
+clash t u e f g = let z : _≡_ {A = ℕ} 0 1 = cc in omega arith
+
+-- two lists over the same blocks begin with the same run
+module _ (a : ℕ) (f g : FreeExtent) (fs gs : List FreeExtent) (h : Apart a (f ∷ fs)) (k : Apart a (g ∷ gs)) (s : (b : ℕ) → lies (f ∷ fs) b ≡ lies (g ∷ gs) b) where
+  start-most : g .startblock ≤ f .startblock
+  start-most =
+      split (leb (g .startblock) (f .startblock)) (λ e. omega tests)
+      (λ e. absurd (clash (lies (f ∷ fs) (f .startblock)) (lies (g ∷ gs) (f .startblock)) (s (f .startblock))
+      (lies-first f fs (f .startblock) (omega arith) (omega (arith, h .1)))
+      (lies-before (g .startblock) (g ∷ gs) (f .startblock) (omega arith, k .1, k .2) (omega tests))))
+
+  end-least : f .startblock ≡ g .startblock → f .startblock + f .blockcount ≤ g .startblock + g .blockcount
+  end-least q =
+      let n : ℕ = g .startblock + g .blockcount in
+      split (leb (f .startblock + f .blockcount) n) (λ e. omega tests)
+      (λ e. absurd (clash (lies (f ∷ fs) n) (lies (g ∷ gs) n) (s n)
+      (lies-first f fs n (omega arith) (omega tests))
+      (lies-behind g gs n (omega arith) ∙ lies-before (suc n) gs n (k .2) (omega arith))))
+
+abbrev extentOf : ℕ → ℕ → FreeExtent
+extentOf s c = record { startblock = s; blockcount = c }
+
+only : (a : ℕ) (fs gs : List FreeExtent) → Apart a fs → Apart a gs → ((b : ℕ) → lies fs b ≡ lies gs b) → fs ≡ gs
+only a [] [] h k s = refl
+only a [] (g ∷ gs) h k s =
+    absurd (clash (lies (g ∷ gs) (g .startblock)) (lies [] (g .startblock)) (sym (s (g .startblock))) (lies-first g gs (g .startblock) (omega arith) (omega (arith, k .1))) (lies-before (suc (g .startblock)) [] (g .startblock) tt (omega arith)))
+only a (f ∷ fs) [] h k s =
+    absurd (clash (lies (f ∷ fs) (f .startblock)) (lies [] (f .startblock)) (s (f .startblock)) (lies-first f fs (f .startblock) (omega arith) (omega (arith, h .1))) (lies-before (suc (f .startblock)) [] (f .startblock) tt (omega arith)))
+only a (f ∷ fs) (g ∷ gs) h k s =
+    let p : f .startblock ≡ g .startblock = omega (arith, start-most a f g fs gs h k s, start-most a g f gs fs k h (λ b. sym (s b))) in
+    let q : f .startblock + f .blockcount ≡ g .startblock + g .blockcount = omega (arith, end-least a f g fs gs h k s p, end-least a g f gs fs k h (λ b. sym (s b)) (sym p)) in
+    let c : f .blockcount ≡ g .blockcount = omega arith in
+    ap₂ (λ (x : FreeExtent) (l : List FreeExtent). x ∷ l) (ap₂ extentOf p c)
+    (only (suc (f .startblock + f .blockcount)) fs gs (h .2) (apart-weaken (suc (f .startblock + f .blockcount)) (suc (g .startblock + g .blockcount)) gs (omega arith) (k .2))
+    (λ b. split (leb (f .startblock + f .blockcount) b)
+    (λ e. sym (lies-behind f fs b (omega tests)) ∙ s b ∙ lies-behind g gs b (omega tests))
+    (λ e. lies-before (suc (f .startblock + f .blockcount)) fs b (h .2) (omega tests) ∙ sym (lies-before (suc (g .startblock + g .blockcount)) gs b (k .2) (omega tests)))))
+
+pub longest-only : (p : ℕ → Bool) (s n : ℕ) (fs : List FreeExtent) → Longest p s n fs → fs ≡ runs p s n
+longest-only p s n fs h = only s fs (runs p s n) (h .apart) (apart-runs p s n) (λ b. h .blocks b ∙ sym (lies-runs p s n b))

@@ -54,7 +54,7 @@ raised-in s e r b h u v n =
     (λ q. rw (p, q) (omega (arith, raised-sum s e r b, piece-right (r .startblock) (clamp r s) (r .refcount) b (omega tests), piece-right (clamp r s) (clamp r e) (r .refcount + 1) b (omega tests), piece-in (clamp r e) (stop r) (r .refcount) b (omega tests) (omega tests)))))
     (λ p. rw p (omega (arith, raised-sum s e r b, piece-in (r .startblock) (clamp r s) (r .refcount) b (omega tests) (omega tests), piece-left (clamp r s) (clamp r e) (r .refcount + 1) b (omega tests), piece-left (clamp r e) (stop r) (r .refcount) b (omega tests))))
 
-kind-some : (r : Refcount) → OfKind r → 0 < r .refcount
+pub kind-some : (r : Refcount) → OfKind r → 0 < r .refcount
 kind-some r (shared p q) = omega arith
 kind-some r (staged p q t) = omega arith
 
@@ -132,10 +132,13 @@ lift-high : (s e b : ℕ) → e ≤ b → lift s e b 0 ≡ 0
 unfolding lift
 lift-high s e b h = split (leb s b) (λ p. rw (p, le-ltb b e h) refl) (λ p. rw p refl)
 
+pub raise-at : (s e : ℕ) (l : List Refcount) (b : ℕ) → s ≤ e → Accepted l → at (raise s e l) b ≡ lift s e b (at l b)
+raise-at s e l b h k = joinAll-at (raiseAll s e l) b ∙ raiseAll-at 0 s e l b (omega arith) k
+
 pub raise-owners : (s e : ℕ) (l : List Refcount) (b : ℕ) → s ≤ e → e ≤ 2 ^ 31 → Accepted l → owners (raise s e l) b ≡ lift s e b (owners l b)
 raise-owners s e l b h t k =
     split (ltb b (2 ^ 31))
-    (λ f. let p : b < 2 ^ 31 = omega tests in rw (owners-at (raise s e l) b p, owners-at l b p) (joinAll-at (raiseAll s e l) b ∙ raiseAll-at 0 s e l b (omega arith) k))
+    (λ f. let p : b < 2 ^ 31 = omega tests in rw (owners-at (raise s e l) b p, owners-at l b p) (raise-at s e l b h k))
     (λ f. let p : 2 ^ 31 ≤ b = omega tests in rw (owners-high 0 (raise s e l) b (raise-from s e l h t k) p, owners-high 0 l b k p, lift-high s e b (omega arith)) refl)
 
 -- ---- 4 bytes hold the owners

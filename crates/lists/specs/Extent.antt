@@ -1,7 +1,8 @@
 -- Extents: a start and a count of blocks. An extent lies over the blocks start to start + count - 1.
 -- Assumes nothing.
-use Prim.Native.Nat.{ℕ, zero, suc, _+_, _^_}
-use mathlib.Core.Bool.{Bool, cond, _&&_}
+use Prim.Native.Nat.{ℕ, zero, suc, _+_, _^_, _≤_, _<_}
+use mathlib.Core.Path.{_≡_}
+use mathlib.Core.Bool.{Bool, false, cond, _&&_, _||_}
 use mathlib.Core.List.{List, [], _∷_}
 use lib.Dec.{ltb, leb, eqb}
 use Rattle.codec.specs.declared.free_extent.FreeExtent.{FreeExtent}
@@ -30,3 +31,21 @@ unfoldable pub runs : (ℕ → Bool) → ℕ → ℕ → List FreeExtent
 unfolding grow
 runs p b zero = []
 runs p b (suc n) = cond (p b) (grow b (runs p (suc b) n)) (runs p (suc b) n)
+
+-- ---- what `runs` means: proofs/Longest.antt shows that it is `Longest` for every test, and that no other list is
+
+-- does one of the extents lie over block b?
+unfoldable pub lies : List FreeExtent → ℕ → Bool
+lies [] b = false
+lies (f ∷ fs) b = over (f .startblock) (f .blockcount) b || lies fs b
+
+-- none begins before a, none is empty, and a block lies between each and the next
+abbrev pub Apart : ℕ → List FreeExtent → Type 0
+Apart a [] = Unit {0}
+Apart a (f ∷ fs) = (a ≤ f .startblock) × (0 < f .blockcount) × Apart (suc (f .startblock + f .blockcount)) fs
+
+-- the extents lie over exactly the blocks that pass the test, among n blocks from b; ascending, and each as long as it can be, since the block
+-- behind it is in none
+pub record Longest (p : ℕ → Bool) (b n : ℕ) (fs : List FreeExtent) : Type 0 where
+  pub blocks : (k : ℕ) → lies fs k ≡ (over b n k && p k)
+  pub apart : Apart b fs

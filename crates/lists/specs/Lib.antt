@@ -10,3 +10,4 @@ pub mod RmapPlans
 pub mod Steps
 pub mod Passes
 pub mod Staying
+pub mod Settled

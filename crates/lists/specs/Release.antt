@@ -55,7 +55,7 @@ continues r s = eqb (stop r) (s .startblock) && eqb (r .refcount) (s .refcount)
 abbrev pub joined : Refcount → Refcount → Refcount
 joined r s = record { startblock = r .startblock; blockcount = r .blockcount + s .blockcount; refcount = r .refcount }
 
--- all adjacent equals joined
+-- all adjacent equals joined: in what comes of it no record continues the one before it (`Settled` of specs/Settled.antt)
 unfoldable pub joinFrom : Refcount → List Refcount → List Refcount
 joinFrom r [] = r ∷ []
 joinFrom r (s ∷ l) = cond (continues r s) (joinFrom (joined r s) l) (r ∷ joinFrom s l)

@@ -30,3 +30,5 @@ pub mod ForestLaws
 pub mod WalkMeaning
 pub mod BuildLaws
 pub mod WalkReasons
+pub mod FinishedWalks
+pub mod HighestKeys

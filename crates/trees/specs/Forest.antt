@@ -3,7 +3,7 @@
 use Prim.Native.Nat.{ℕ, zero, suc, _+_}
 use mathlib.Core.Path.{_≡_}
 use mathlib.Core.List.{List, [], _∷_, _++_}
-use Rattle.trees.specs.Walk.{Visit, Look, good, Trace, met}
+use Rattle.trees.specs.Walk.{Visit, Look, good, Trace, met, visits, records}
 
 -- trees side by side: a root with its records' bytes, the trees below it, and the trees to its right
 pub data Forest : Type 0 where
@@ -49,3 +49,12 @@ through (tree v b below right) t = met v b (through below (through right t))
 unfoldable pub sizeOf : Forest → ℕ
 sizeOf empty = 0
 sizeOf (tree v b below right) = suc (sizeOf below + sizeOf right)
+
+-- a walk from a root read one tree, which stands: it visited each of its blocks, one before those below it, and read its records from left to
+-- right. proofs/FinishedWalks.antt shows it of every finished walk.
+pub record ReadTree (look : Visit → Look) (root : Visit) (t : Trace) : Type 0 where
+  pub forest : Forest
+  pub rooted : roots forest ≡ root ∷ []
+  pub stands : Stands look forest
+  pub visited : visits t ≡ blocksIn forest
+  pub in-order : records t ≡ bytesIn forest

@@ -58,7 +58,7 @@ greatest k (r ∷ rs) = greatest (greater k (highKey r)) rs
 abbrev pub noKey : RmapKey
 noKey = record { start = 0; owner = 0; offset = 0 }
 
--- the first record's key, and the greatest high key
+-- the first record's key, and the greatest high key (`IsHighest` of specs/HighKeys.antt)
 abbrev pub lowest : List Rmap → RmapKey
 lowest [] = noKey
 lowest (r ∷ rs) = lowKey r

@@ -13,3 +13,4 @@ pub mod RoundTrip
 pub mod Shapes
 pub mod PlanAnswer
 pub mod Forest
+pub mod HighKeys

@@ -1,0 +1,171 @@
+-- After a release or a raise no record continues its predecessor, and staging lies over the same blocks as before.
+-- Assumes nothing.
+use Prim.Native.Nat.{ℕ, _+_, _%_, _^_, _≤_, _<_}
+use mathlib.Core.Bool.{true, false, _&&_, _||_}
+use mathlib.Core.Path.{_≡_, refl, sym, ap, subst, _∙_}
+use mathlib.Core.List.{List, [], _∷_, _++_}
+use native.Mathlib.Omega.{arith}
+use native.Mathlib.Nat.{zero-add}
+use lib.Dec.{ltb, leb}
+use borrow.Author.Tests.{lt-ltb, le-ltb, le-leb, lt-leb}
+use Rattle.codec.specs.Bytes.{IsBytes}
+use Rattle.codec.specs.Question.{done, ask}
+use Rattle.codec.specs.Records.{recordsOf, AllStorable, refcounts, freeExtents}
+use Rattle.codec.specs.Refcounts as refcount
+use Rattle.codec.specs.Refcounts.{staging, block}
+use Rattle.codec.specs.declared.refcount.Refcount.{Refcount}
+use Rattle.codec.specs.declared.free_extent.FreeExtent.{FreeExtent}
+use Rattle.codec.proofs.Meaning.{done-means}
+use Rattle.codec.proofs.RecordKinds.{refcounts-lawful}
+use Rattle.codec.proofs.ListBytes.{storable-recordsOf}
+use Rattle.lists.specs.Extent.{over, within, goodExtent}
+use Rattle.lists.specs.Release.{clear, unshared, stop, lowerAll, continues, joined, joinFrom, joinAll, release}
+use Rattle.lists.specs.Raise.{raiseAll, raise, ownersFit, raiseOutcome}
+use Rattle.lists.specs.Edits.{countQuestions, fits, Freed, releaseOutcome}
+use Rattle.lists.specs.Settled.{PartedFrom, Parted, staged, Settled}
+use Rattle.lists.proofs.Cases.{split, tests, conj, over-facts, facts-over, within-in, within-right, within-not}
+use Rattle.lists.proofs.Counts as C
+use Rattle.lists.proofs.Counts.{OfKind, From, at, lower, release-at, release-from}
+use Rattle.lists.proofs.Raising.{lift, raise-at, raise-from}
+
+-- ---- joins
+
+-- what is joined to r begins where r does, with as many owners
+parted-from : (q r : Refcount) (l : List Refcount) → continues q r ≡ false → PartedFrom q (joinFrom r l)
+unfolding joinFrom
+parted-from q r [] h = (h, tt)
+parted-from q r (s ∷ l) h =
+    split (continues r s)
+    (λ e. rw e (parted-from q (joined r s) l (joined-starts q r s h)))
+    (λ e. rw e (h, parted-from r s l e))
+  where
+    joined-starts : (q r s : Refcount) → continues q r ≡ false → continues q (joined r s) ≡ false
+    joined-starts q r s h = unfold continues in h
+
+-- the same of the first
+parted-first : (r : Refcount) (l : List Refcount) → Parted (joinFrom r l)
+unfolding joinFrom
+parted-first r [] = tt
+parted-first r (s ∷ l) = split (continues r s) (λ e. rw e (parted-first (joined r s) l)) (λ e. rw e (parted-from r s l e))
+
+-- whatever the records are
+pub parted-joinAll : (l : List Refcount) → Parted (joinAll l)
+unfolding joinAll
+parted-joinAll [] = tt
+parted-joinAll (r ∷ l) = parted-first r l
+
+pub parted-release : (s e : ℕ) (l : List Refcount) → Parted (release s e l)
+parted-release s e l = parted-joinAll (lowerAll s e l)
+
+pub parted-raise : (s e : ℕ) (l : List Refcount) → Parted (raise s e l)
+parted-raise s e l = parted-joinAll (raiseAll s e l)
+
+-- ---- staging: what lies from 2^31 on
+
+-- one record, by its kind
+staged-kind : (r : Refcount) (b : ℕ) → 0 < r .blockcount → OfKind r → (staging r && over (block r) (r .blockcount) b) ≡ ltb 0 (within (r .startblock) (r .blockcount) (r .refcount) (2 ^ 31 + b))
+unfolding staging
+staged-kind r b n (C.shared p q) =
+    rw (lt-leb (2 ^ 31) (r .startblock) (omega arith), within-right (r .startblock) (r .blockcount) (r .refcount) (2 ^ 31 + b) (omega arith)) refl
+staged-kind r b n (C.staged p q t) =
+    let m : r .startblock % 2 ^ 31 + 2 ^ 31 ≡ r .startblock = omega arith in
+    rw (le-leb (2 ^ 31) (r .startblock) p)
+    (split (over (block r) (r .blockcount) b)
+    (λ e. let k = over-facts (block r) (r .blockcount) b e in
+    rw (e, within-in (r .startblock) (r .blockcount) (r .refcount) (2 ^ 31 + b) (omega arith) (omega arith), t) refl)
+    (λ e. rw (e, outside e m) refl))
+  where
+    outside : over (block r) (r .blockcount) b ≡ false → r .startblock % 2 ^ 31 + 2 ^ 31 ≡ r .startblock
+        → within (r .startblock) (r .blockcount) (r .refcount) (2 ^ 31 + b) ≡ 0
+    outside e m =
+        split (over (r .startblock) (r .blockcount) (2 ^ 31 + b))
+        (λ f. let k = over-facts (r .startblock) (r .blockcount) (2 ^ 31 + b) f in
+        let g : over (block r) (r .blockcount) b ≡ true = facts-over (block r) (r .blockcount) b (omega arith) (omega arith) in
+        cc)
+        (λ f. within-not (r .startblock) (r .blockcount) (r .refcount) (2 ^ 31 + b) f)
+
+-- the sum of two numbers is above 0 where one of them is
+some-sum : (x y : ℕ) → ltb 0 (x + y) ≡ (ltb 0 x || ltb 0 y)
+some-sum x y =
+    split (ltb 0 x)
+    (λ e. rw (e, lt-ltb 0 (x + y) (omega tests)) refl)
+    (λ e. let q : x ≡ 0 = omega tests in rw (q, zero-add y) refl)
+
+pub staged-at : (d : ℕ) (l : List Refcount) (b : ℕ) → From d l → staged l b ≡ ltb 0 (at l (2 ^ 31 + b))
+unfolding staged at
+staged-at d [] b h = refl
+staged-at d (r ∷ l) b h =
+    rw (some-sum (within (r .startblock) (r .blockcount) (r .refcount) (2 ^ 31 + b)) (at l (2 ^ 31 + b)), staged-kind r b (h .0 .0) (h .0 .1), staged-at (stop r) l b (h .2))
+    refl
+
+-- an edit that leaves the places from 2^31 on as they are leaves staging so
+staged-same : (l m : List Refcount) → C.Accepted l → C.Accepted m → ((b : ℕ) → 2 ^ 31 ≤ b → at m b ≡ at l b) → (b : ℕ) → staged m b ≡ staged l b
+staged-same l m hl hm h b = staged-at 0 m b hm ∙ ap (ltb 0) (h (2 ^ 31 + b) (omega arith)) ∙ sym (staged-at 0 l b hl)
+
+lower-high : (s e b n : ℕ) → e ≤ b → lower s e b n ≡ n
+unfolding lower
+lower-high s e b n h = split (leb s b) (λ p. rw (p, le-ltb b e h) refl) (λ p. rw p refl)
+
+lift-high : (s e b n : ℕ) → e ≤ b → lift s e b n ≡ n
+unfolding lift
+lift-high s e b n h = split (leb s b) (λ p. rw (p, le-ltb b e h) refl) (λ p. rw p refl)
+
+-- ---- both edits
+
+module _ (start count : ℕ) (l : List Refcount) (end : start + count ≤ 2 ^ 31) (order : refcount.accepted l ≡ true) (stored : AllStorable refcounts l) where
+  facts : C.Accepted l
+  facts = C.accepted-facts l stored order
+
+  pub release-settles : Settled l (release start (start + count) l)
+  release-settles =
+      record {
+        joined = parted-release start (start + count) l;
+        staging =
+            staged-same l (release start (start + count) l) facts (release-from start (start + count) l (omega arith) facts)
+            (λ b h. release-at start (start + count) l b (omega arith) facts ∙ lower-high start (start + count) b (at l b) (omega arith));
+      }
+
+  pub raise-settles : Settled l (raise start (start + count) l)
+  raise-settles =
+      record {
+        joined = parted-raise start (start + count) l;
+        staging =
+            staged-same l (raise start (start + count) l) facts (raise-from start (start + count) l (omega arith) end facts)
+            (λ b h. raise-at start (start + count) l b (omega arith) facts ∙ lift-high start (start + count) b (at l b) (omega arith));
+      }
+
+-- ---- over lent bytes
+
+pub release-settled : (c : List ℕ) (start count room freeRoom : ℕ) (r : Freed) → IsBytes c → releaseOutcome c start count room freeRoom ≡ done r
+    → Settled (recordsOf refcounts c) (r .counts)
+unfolding releaseOutcome goodExtent
+release-settled c start count room freeRoom r h e =
+    let l : List Refcount = recordsOf refcounts c in
+    let after : List Refcount = release start (start + count) l in
+    let free : List FreeExtent = unshared l start count in
+    let k = done-means
+    (countQuestions c
+    ++ (ask 22 (goodExtent start count)
+    ∷ ask 25 (clear start (start + count) l)
+    ∷ ask 26 (fits refcounts after room && fits freeExtents free freeRoom)
+    ∷ []))
+    (record { counts = after; free = free }) r e in
+    let q = k .0 in
+    let g : (ltb 0 count && leb (start + count) (2 ^ 31)) ≡ true = q .1 .1 .0 in
+    let u : leb (start + count) (2 ^ 31) ≡ true = search conj in
+    subst (λ (r : Freed). Settled l (r .counts)) (k .1)
+    (release-settles start count l (omega tests) (q .1 .0) (storable-recordsOf refcounts refcounts-lawful c h))
+
+pub raise-settled : (c : List ℕ) (start count : ℕ) (m : List Refcount) → IsBytes c → raiseOutcome c start count ≡ done m
+    → Settled (recordsOf refcounts c) m
+unfolding raiseOutcome goodExtent
+raise-settled c start count m h e =
+    let l : List Refcount = recordsOf refcounts c in
+    let k = done-means
+    (countQuestions c ++ (ask 22 (goodExtent start count) ∷ ask 25 (clear start (start + count) l) ∷ ask 28 (ownersFit start (start + count) l) ∷ []))
+    (raise start (start + count) l) m e in
+    let q = k .0 in
+    let g : (ltb 0 count && leb (start + count) (2 ^ 31)) ≡ true = q .1 .1 .0 in
+    let u : leb (start + count) (2 ^ 31) ≡ true = search conj in
+    subst (Settled l) (k .1)
+    (raise-settles start count l (omega tests) (q .1 .0) (storable-recordsOf refcounts refcounts-lawful c h))
