@@ -1,15 +1,10 @@
 // Calls that edit a list. The old list is read, the new one written to another buffer, and a refusal writes nothing but the figures.
-ghost use mathlib.Core.Path.{_≡_};
 ghost use lib.ListN.{length};
-ghost use Rattle.codec.specs.Question.{mapOutcome};
-ghost use Rattle.codec.specs.Records.{rmaps, refcounts, freeExtents};
-ghost use Rattle.lists.specs.Edits.{insertOutcome, insertSharedOutcome, removeOutcome, releaseOutcome, written};
-ghost use Rattle.lists.specs.Answer.{lengthOf, lengthsOf};
+ghost use Rattle.lists.specs.Edits.{insertOutcome, insertSharedOutcome, removeOutcome, releaseOutcome};
 ghost use Rattle.groups.specs.LetGo.{letGoOutcome};
-ghost use Rattle.groups.specs.Answer.{sizesOf, mapOf, countsOf, freeOf};
 ghost use Rattle.groups.specs.TakeHeld.{takeHeldOutcome};
-ghost use Rattle.groups.specs.TakeHeldAnswer.{bothSizesOf, heldMapOf, heldCountsOf};
-ghost use Rattle.exports.specs.Interface.{extentOf, Says, lengthFigures, releaseFigures, goneFigures, bothFigures};
+ghost use Rattle.exports.specs.Interface.{extentOf};
+ghost use Rattle.exports.specs.ListCalls.{EditSays, ReleaseSays, GoneSays, BothSays};
 use crate::answers::edited_answer;
 use crate::answers::let_gone_answer;
 use crate::answers::released_answer;
@@ -33,8 +28,8 @@ pub extern "C" fn kf_insert(
     new: &mut [u8],
     said: &mut [u64; 4],
 ) -> u32
-    ensures { λ r. ⌜ Says lengthFigures (lengthOf rmaps (insertOutcome (now (old .entry)) (extentOf startblock blockcount owner offset) (length (now (new .entry))))) r (now (said .exit)) ⌝ }
-    ensures { λ _. ⌜ now (new .exit) ≡ written rmaps (now (new .entry)) (insertOutcome (now (old .entry)) (extentOf startblock blockcount owner offset) (length (now (new .entry)))) ⌝ }
+    ensures { λ r. ⌜ EditSays (insertOutcome (now (old .entry)) (extentOf startblock blockcount owner offset) (length (now (new .entry)))) r
+        (now (said .exit)) (now (new .entry)) (now (new .exit)) ⌝ }
 {
     let x = extent(startblock, blockcount, owner, offset);
     let answer = edited_answer(insert(old, x, new));
@@ -55,8 +50,8 @@ pub extern "C" fn kf_insert_shared(
     new: &mut [u8],
     said: &mut [u64; 4],
 ) -> u32
-    ensures { λ r. ⌜ Says lengthFigures (lengthOf rmaps (insertSharedOutcome (now (old .entry)) (extentOf startblock blockcount owner offset) (length (now (new .entry))))) r (now (said .exit)) ⌝ }
-    ensures { λ _. ⌜ now (new .exit) ≡ written rmaps (now (new .entry)) (insertSharedOutcome (now (old .entry)) (extentOf startblock blockcount owner offset) (length (now (new .entry)))) ⌝ }
+    ensures { λ r. ⌜ EditSays (insertSharedOutcome (now (old .entry)) (extentOf startblock blockcount owner offset) (length (now (new .entry)))) r
+        (now (said .exit)) (now (new .entry)) (now (new .exit)) ⌝ }
 {
     let x = extent(startblock, blockcount, owner, offset);
     let answer = edited_answer(insert_shared(old, x, new));
@@ -76,8 +71,8 @@ pub extern "C" fn kf_remove(
     new: &mut [u8],
     said: &mut [u64; 4],
 ) -> u32
-    ensures { λ r. ⌜ Says lengthFigures (lengthOf rmaps (removeOutcome (now (old .entry)) (extentOf startblock blockcount owner offset) (length (now (new .entry))))) r (now (said .exit)) ⌝ }
-    ensures { λ _. ⌜ now (new .exit) ≡ written rmaps (now (new .entry)) (removeOutcome (now (old .entry)) (extentOf startblock blockcount owner offset) (length (now (new .entry)))) ⌝ }
+    ensures { λ r. ⌜ EditSays (removeOutcome (now (old .entry)) (extentOf startblock blockcount owner offset) (length (now (new .entry)))) r
+        (now (said .exit)) (now (new .entry)) (now (new .exit)) ⌝ }
 {
     let x = extent(startblock, blockcount, owner, offset);
     let answer = edited_answer(remove(old, x, new));
@@ -96,9 +91,8 @@ pub extern "C" fn kf_release(
     free: &mut [u8],
     said: &mut [u64; 4],
 ) -> u32
-    ensures { λ r. ⌜ Says releaseFigures (lengthsOf (releaseOutcome (now (counts .entry)) startblock blockcount (length (now (new .entry))) (length (now (free .entry))))) r (now (said .exit)) ⌝ }
-    ensures { λ _. ⌜ now (new .exit) ≡ written refcounts (now (new .entry)) (mapOutcome (λ f. f .counts) (releaseOutcome (now (counts .entry)) startblock blockcount (length (now (new .entry))) (length (now (free .entry))))) ⌝ }
-    ensures { λ _. ⌜ now (free .exit) ≡ written freeExtents (now (free .entry)) (mapOutcome (λ f. f .free) (releaseOutcome (now (counts .entry)) startblock blockcount (length (now (new .entry))) (length (now (free .entry))))) ⌝ }
+    ensures { λ r. ⌜ ReleaseSays (releaseOutcome (now (counts .entry)) startblock blockcount (length (now (new .entry))) (length (now (free .entry)))) r
+        (now (said .exit)) (now (new .entry)) (now (new .exit)) (now (free .entry)) (now (free .exit)) ⌝ }
 {
     let answer = released_answer(release(counts, startblock, blockcount, new, free));
     let figures = answer.figures;
@@ -121,10 +115,11 @@ pub extern "C" fn kf_let_go(
     free: &mut [u8],
     said: &mut [u64; 4],
 ) -> u32
-    ensures { λ r. ⌜ Says goneFigures (sizesOf (letGoOutcome (now (map .entry)) (now (counts .entry)) (extentOf startblock blockcount owner offset) (length (now («new_map» .entry))) (length (now («new_counts» .entry))) (length (now (free .entry))))) r (now (said .exit)) ⌝ }
-    ensures { λ _. ⌜ now («new_map» .exit) ≡ written rmaps (now («new_map» .entry)) (mapOf (letGoOutcome (now (map .entry)) (now (counts .entry)) (extentOf startblock blockcount owner offset) (length (now («new_map» .entry))) (length (now («new_counts» .entry))) (length (now (free .entry))))) ⌝ }
-    ensures { λ _. ⌜ now («new_counts» .exit) ≡ written refcounts (now («new_counts» .entry)) (countsOf (letGoOutcome (now (map .entry)) (now (counts .entry)) (extentOf startblock blockcount owner offset) (length (now («new_map» .entry))) (length (now («new_counts» .entry))) (length (now (free .entry))))) ⌝ }
-    ensures { λ _. ⌜ now (free .exit) ≡ written freeExtents (now (free .entry)) (freeOf (letGoOutcome (now (map .entry)) (now (counts .entry)) (extentOf startblock blockcount owner offset) (length (now («new_map» .entry))) (length (now («new_counts» .entry))) (length (now (free .entry))))) ⌝ }
+    ensures { λ r. ⌜ GoneSays
+        (letGoOutcome (now (map .entry)) (now (counts .entry)) (extentOf startblock blockcount owner offset)
+        (length (now («new_map» .entry))) (length (now («new_counts» .entry))) (length (now (free .entry))))
+        r (now (said .exit)) (now («new_map» .entry)) (now («new_map» .exit)) (now («new_counts» .entry)) (now («new_counts» .exit))
+        (now (free .entry)) (now (free .exit)) ⌝ }
 {
     let x = extent(startblock, blockcount, owner, offset);
     let answer = let_gone_answer(let_go(map, counts, x, new_map, new_counts, free));
@@ -147,9 +142,10 @@ pub extern "C" fn kf_take_held(
     new_counts: &mut [u8],
     said: &mut [u64; 4],
 ) -> u32
-    ensures { λ r. ⌜ Says bothFigures (bothSizesOf (takeHeldOutcome (now (map .entry)) (now (counts .entry)) (extentOf startblock blockcount owner offset) (length (now («new_map» .entry))) (length (now («new_counts» .entry))))) r (now (said .exit)) ⌝ }
-    ensures { λ _. ⌜ now («new_map» .exit) ≡ written rmaps (now («new_map» .entry)) (heldMapOf (takeHeldOutcome (now (map .entry)) (now (counts .entry)) (extentOf startblock blockcount owner offset) (length (now («new_map» .entry))) (length (now («new_counts» .entry))))) ⌝ }
-    ensures { λ _. ⌜ now («new_counts» .exit) ≡ written refcounts (now («new_counts» .entry)) (heldCountsOf (takeHeldOutcome (now (map .entry)) (now (counts .entry)) (extentOf startblock blockcount owner offset) (length (now («new_map» .entry))) (length (now («new_counts» .entry))))) ⌝ }
+    ensures { λ r. ⌜ BothSays
+        (takeHeldOutcome (now (map .entry)) (now (counts .entry)) (extentOf startblock blockcount owner offset)
+        (length (now («new_map» .entry))) (length (now («new_counts» .entry))))
+        r (now (said .exit)) (now («new_map» .entry)) (now («new_map» .exit)) (now («new_counts» .entry)) (now («new_counts» .exit)) ⌝ }
 {
     let x = extent(startblock, blockcount, owner, offset);
     let answer = taken_held_answer(take_held(map, counts, x, new_map, new_counts));

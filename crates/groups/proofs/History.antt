@@ -1,7 +1,7 @@
 -- The history theorem: demand 3 of every list of takes and lets go.
 -- Assumes nothing.
 use Prim.Native.Nat.{ℕ, _+_, _<_}
-use mathlib.Core.Bool.{true}
+use mathlib.Core.Bool.{Bool, true}
 use mathlib.Core.Path.{_≡_, refl, ap, _∙_, subst}
 use mathlib.Core.List.{List, [], _∷_, _++_}
 use native.Mathlib.Omega.{arith}
@@ -16,9 +16,11 @@ use Rattle.blocks.specs.declared.kind.TreeKind.the-variants as kind
 use Rattle.codec.proofs.RecordLists.{recordsOf-bytesOf}
 use Rattle.codec.proofs.RecordKinds.{rmaps-lawful, refcounts-lawful}
 use Rattle.codec.proofs.ListBytes.{storable-recordsOf, isBytes-bytesOf, whole-bytesOf}
-use Rattle.lists.specs.Extent.{within, runs}
+use Rattle.lists.specs.Extent.{within, runs, Longest}
+use Rattle.lists.specs.Settled.{staged}
 use Rattle.lists.specs.Edits.{insertOutcome}
 use Rattle.lists.proofs.Counts as C
+use Rattle.lists.proofs.Longest.{longest-runs}
 use Rattle.lists.proofs.Laws.{Taken, insert-law, insert-unheld}
 use Rattle.groups.specs.LetGo.{Gone, letGoOutcome}
 use Rattle.groups.specs.TakeHeld.{Both, takeHeldOutcome}
@@ -26,22 +28,29 @@ use Rattle.groups.specs.History.{Lists, Accepted, Agreeing, held, Change
 use Rattle.groups.proofs.Agreement.{agree-letGo, agree-take, agree-raise, unshared-unheld}
 use Rattle.groups.proofs.Letting.{letGo-law}
 use Rattle.groups.proofs.TakingAll.{takeHeld-law}
+use Rattle.groups.proofs.Staging.{letGo-settles, takeHeld-settles}
 use Rattle.groups.proofs.Returning.{returned}
 use Rattle.groups.proofs.Example.{none-held, sharing, none-start}
 
 -- ---- from lists to lists
 
+-- does a staging record of the counts lie over block b?
+abbrev stagedIn : Lists → ℕ → Bool
+stagedIn σ b = staged (recordsOf refcounts (σ .counts)) b
+
 -- τ is σ after changes by which t takes and g lets go covered each block
 pub record Kept (σ : Lists) (t g : ℕ → ℕ) (τ : Lists) : Type 0 where
   pub accepted : Accepted τ
   pub agree : Agreeing τ
+  pub staging : (b : ℕ) → stagedIn τ b ≡ stagedIn σ b
   pub sum : (b : ℕ) → held τ b + g b ≡ held σ b + t b
 
 kept-same : (σ : Lists) → Accepted σ → Agreeing σ → Kept σ (λ b. 0) (λ b. 0) σ
-kept-same σ h a = record { accepted = h; agree = a; sum = λ b. refl }
+kept-same σ h a = record { accepted = h; agree = a; staging = λ b. refl; sum = λ b. refl }
 
 kept-then : (σ τ ρ : Lists) (t g t′ g′ : ℕ → ℕ) → Kept σ t g τ → Kept τ t′ g′ ρ → Kept σ (λ b. t b + t′ b) (λ b. g b + g′ b) ρ
-kept-then σ τ ρ t g t′ g′ h k = record { accepted = k .accepted; agree = k .agree; sum = λ b. omega (arith, h .sum b, k .sum b) }
+kept-then σ τ ρ t g t′ g′ h k =
+    record { accepted = k .accepted; agree = k .agree; staging = λ b. k .staging b ∙ h .staging b; sum = λ b. omega (arith, h .sum b, k .sum b) }
 
 -- the counts as facts
 counts-facts : (σ : Lists) → Accepted σ → C.Accepted (recordsOf refcounts (σ .counts))
@@ -50,7 +59,7 @@ counts-facts σ h = C.accepted-facts (recordsOf refcounts (σ .counts)) (storabl
 map-back : (m : List Rmap) → AllStorable rmaps m → recordsOf rmaps (bytesOf rmaps m) ≡ m
 map-back = recordsOf-bytesOf rmaps rmaps-lawful
 
-counts-back : (c : List Refcount) → AllStorable refcounts c → recordsOf refcounts (bytesOf refcounts c) ≡ c
+pub counts-back : (c : List Refcount) → AllStorable refcounts c → recordsOf refcounts (bytesOf refcounts c) ≡ c
 counts-back = recordsOf-bytesOf refcounts refcounts-lawful
 
 -- two lists that are accepted and can be stored, as bytes
@@ -86,6 +95,7 @@ kept-take σ x m h a t f =
       agree =
           rw q
           (agree-take (recordsOf rmaps (σ .map)) m (recordsOf refcounts (σ .counts)) (x .startblock) (x .blockcount) (counts-facts σ h) a (t .held) f);
+      staging = λ b. refl;
       sum = λ b. rw q (omega (arith, t .held b));
     }
 
@@ -108,6 +118,7 @@ kept-takeHeld σ x room countsRoom g h a f e =
           rw (q, r)
           (agree-raise m (g .map) c (x .startblock) (x .blockcount) (counts-facts σ h) a (g .counts)
           (C.accepted-facts (g .counts) (l .stored) (l .accepted)) (l .owned) (p .held) (w .all-held));
+      staging = λ b. rw r (takeHeld-settles (σ .map) (σ .counts) x (h .counts-bytes) room countsRoom g e .staging b);
       sum = λ b. rw q (omega (arith, p .held b));
     }
 
@@ -132,6 +143,7 @@ kept-letGo σ x room countsRoom freeRoom g h a e =
             rw (q, r)
             (agree-letGo m (g .map) c (x .startblock) (x .blockcount) ok a (g .counts)
             (C.accepted-facts (g .counts) (l .stored) (l .accepted)) (l .owned) (p .held));
+        staging = λ b. rw r (letGo-settles (σ .map) (σ .counts) x (h .counts-bytes) room countsRoom freeRoom g e .staging b);
         sum = λ b. rw q (omega (arith, p .held b));
       },
       rw q (w .free-is ∙ unshared-unheld m (g .map) c (x .startblock) (x .blockcount) ok a (p .held)),
@@ -179,12 +191,13 @@ kept-step σ (letGo x room countsRoom freeRoom) h a =
 -- what an accepted let go offers
 step-offers : (σ : Lists) (x : Rmap) (room countsRoom freeRoom : ℕ) → Accepted σ → Agreeing σ
     → (w : Left) → step σ (letGo x room countsRoom freeRoom) ≡ done w
-    → w .free ≡ runs (λ b. eqb (held (w .lists) b) 0) (x .startblock) (x .blockcount)
+    → Longest (λ b. eqb (held (w .lists) b) 0) (x .startblock) (x .blockcount) (w .free)
 unfolding step
 step-offers σ x room countsRoom freeRoom h a w e =
     let k = from-done went (letGoOutcome (σ .map) (σ .counts) x room countsRoom freeRoom) w e in
-    subst (λ (w : Left). w .free ≡ runs (λ b. eqb (held (w .lists) b) 0) (x .startblock) (x .blockcount)) (k .2)
-    (kept-letGo σ x room countsRoom freeRoom (k .0) h a (k .1) .1)
+    subst (λ (w : Left). Longest (λ b. eqb (held (w .lists) b) 0) (x .startblock) (x .blockcount) (w .free)) (k .2)
+    (rw (kept-letGo σ x room countsRoom freeRoom (k .0) h a (k .1) .1)
+    (longest-runs (λ b. eqb (held (went (k .0) .lists) b) 0) (x .startblock) (x .blockcount)))
 
 -- ---- the whole list
 
@@ -215,6 +228,7 @@ history σ cs s =
       sum = k .sum;
       accepted = k .accepted;
       agree = k .agree;
+      staging = k .staging;
       refusals = λ before c h n v e. refused-same σ before c n v e;
       offers =
           λ before x room countsRoom freeRoom h w e. let p = kept-run σ before (s .accepted) (s .agree) in

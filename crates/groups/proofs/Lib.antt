@@ -2,8 +2,11 @@ pub mod Agreement
 pub mod Letting
 pub mod Returning
 pub mod TakingAll
+pub mod Staging
 pub mod Example
 pub mod History
+pub mod Storing
+pub mod Calling
 pub mod Table
 pub mod Asking
 pub mod Measuring

@@ -35,7 +35,7 @@ use Rattle.groups.specs.declared.LetGone.the-variants.{Done, Refused}
 use Rattle.groups.specs.declared.let_go.Measure.{Measure}
 use Rattle.groups.specs.declared.let_go.Measured.the-variants as measured
 use Rattle.groups.specs.LetGo.{Gone, letting, fitAll, letGoOutcome}
-use Rattle.groups.specs.Answer.{letGoneOutcome, sizesOf, mapOf, countsOf, freeOf}
+use Rattle.groups.specs.Answer.{GoneIs, LetsGo}
 use Rattle.groups.specs.Measured.{MeasuredIs}
 use Rattle.groups.proofs.Asking.{mapPart, countsPart, asked-map, asked-counts, asked-room, asked-done, map-is, good-is}
 
@@ -107,24 +107,17 @@ module _ (map counts : List ℕ) (x : Rmap) where
     abbrev outcome : Outcome Gone
     outcome = letGoOutcome map counts x (length kept) (length lowered) (length free)
 
-    -- the answer and the three buffers are those of an outcome
-    abbrev TellsOf : Outcome Gone → LetGone → (kept′ lowered′ free′ : List ℕ) → Type 0
-    TellsOf o r kept′ lowered′ free′ =
-        (letGoneOutcome r ≡ sizesOf o)
-        × ((kept′ ≡ written rmaps kept (mapOf o))
-        × ((lowered′ ≡ written refcounts lowered (countsOf o)) × (free′ ≡ written freeExtents free (freeOf o))))
-
     abbrev pub Tells : LetGone → (kept′ lowered′ free′ : List ℕ) → Type 0
-    Tells r kept′ lowered′ free′ = TellsOf outcome r kept′ lowered′ free′
+    Tells r kept′ lowered′ free′ = LetsGo map counts x r kept kept′ lowered lowered′ free free′
 
-    by-outcome : (o : Outcome Gone) → outcome ≡ o → (r : LetGone) (kept′ lowered′ free′ : List ℕ) → TellsOf o r kept′ lowered′ free′
+    by-outcome : (o : Outcome Gone) → outcome ≡ o → (r : LetGone) (kept′ lowered′ free′ : List ℕ) → GoneIs o r kept kept′ lowered lowered′ free free′
         → Tells r kept′ lowered′ free′
     by-outcome o e r kept′ lowered′ free′ h = rw e h
 
     pub tells-refused : (q : EditRefusal) → MeasuredIs map counts x (measured.Refused q) → Tells (Refused q) kept lowered free
     unfolding written
     tells-refused q h =
-        by-outcome (refused (editNumber q) none) (h (length kept) (length lowered) (length free)) (Refused q) kept lowered free (refl, (refl, (refl, refl)))
+        by-outcome (refused (editNumber q) none) (h (length kept) (length lowered) (length free)) (Refused q) kept lowered free (record { said = refl; map = refl; counts = refl; extents = refl })
 
     module _ (m : Measure) (h : MeasuredIs map counts x (measured.Ready m)) where
       abbrev room : Bool
@@ -141,7 +134,7 @@ module _ (map counts : List ℕ) (x : Rmap) where
       tells-room t said short =
           let e : room ≡ false = sym said ∙ not-true t short in
           by-outcome (refused 26 none) (h .only-room (length kept) (length lowered) (length free) ∙ rw (room-is, e) refl) (Refused why.Room) kept lowered free
-          (refl, (refl, (refl, refl)))
+          (record { said = refl; map = refl; counts = refl; extents = refl })
 
       module _ (t : Bool) (said : t ≡ room) (enough : not t ≡ false) where
         e : room ≡ true
@@ -179,4 +172,4 @@ module _ (map counts : List ℕ) (x : Rmap) where
             λ i. record { map = s i; counts = u i; free = v i } in
             by-outcome (done g) (h .only-room (length kept) (length lowered) (length free) ∙ rw (room-is, e) refl)
             (Done (record { map = m .plan .size; counts = m .lengths .counts; free = m .lengths .free })) kept′ lowered′ free′
-            (ap done n, (a ∙ ap (λ (l : List Rmap). withBytes kept 0 (bytesOf rmaps l)) (h .list), (b, c)))
+            (record { said = ap done n; map = a ∙ ap (λ (l : List Rmap). withBytes kept 0 (bytesOf rmaps l)) (h .list); counts = b; extents = c })

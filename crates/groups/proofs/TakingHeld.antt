@@ -39,7 +39,7 @@ use Rattle.groups.specs.declared.TakenHeld.the-variants.{Done, Refused}
 use Rattle.groups.specs.declared.take_held.Raise.{Raise}
 use Rattle.groups.specs.declared.take_held.Raising.the-variants as raising
 use Rattle.groups.specs.TakeHeld.{Both, raising, fitBoth, takeHeldOutcome}
-use Rattle.groups.specs.TakeHeldAnswer.{takenHeldOutcome, bothSizesOf, heldMapOf, heldCountsOf, countsFirst, heldFirst, RaisingIs}
+use Rattle.groups.specs.TakeHeldAnswer.{BothIs, TakesHeld, countsFirst, heldFirst, RaisingIs}
 use Rattle.groups.proofs.HeldQuestions.{both, map-refuses, counts-refuse}
 
 -- ---- the length of an outcome
@@ -146,20 +146,15 @@ module _ (map counts : List ℕ) (x : Rmap) where
     abbrev outcome : Outcome Both
     outcome = takeHeldOutcome map counts x (length taken) (length raised)
 
-    -- the answer and both buffers are those of an outcome
-    abbrev TellsOf : Outcome Both → TakenHeld → (taken′ raised′ : List ℕ) → Type 0
-    TellsOf o r taken′ raised′ =
-        (takenHeldOutcome r ≡ bothSizesOf o) × ((taken′ ≡ written rmaps taken (heldMapOf o)) × (raised′ ≡ written refcounts raised (heldCountsOf o)))
-
     abbrev pub Tells : TakenHeld → (taken′ raised′ : List ℕ) → Type 0
-    Tells r taken′ raised′ = TellsOf outcome r taken′ raised′
+    Tells r taken′ raised′ = TakesHeld map counts x r taken taken′ raised raised′
 
-    by-outcome : (o : Outcome Both) → outcome ≡ o → (r : TakenHeld) (taken′ raised′ : List ℕ) → TellsOf o r taken′ raised′ → Tells r taken′ raised′
+    by-outcome : (o : Outcome Both) → outcome ≡ o → (r : TakenHeld) (taken′ raised′ : List ℕ) → BothIs o r taken taken′ raised raised′ → Tells r taken′ raised′
     by-outcome o e r taken′ raised′ h = rw e h
 
     pub tells-refused : (q : EditRefusal) → RaisingIs map counts x (raising.Refused q) → Tells (Refused q) taken raised
     unfolding written
-    tells-refused q h = by-outcome (refused (editNumber q) none) (h (length taken) (length raised)) (Refused q) taken raised (refl, (refl, refl))
+    tells-refused q h = by-outcome (refused (editNumber q) none) (h (length taken) (length raised)) (Refused q) taken raised (record { said = refl; map = refl; counts = refl })
 
     module _ (n : Raise) (h : RaisingIs map counts x (raising.Ready n)) where
       size-is : n .plan .size ≡ length (bytesOf rmaps (g .map))
@@ -168,7 +163,7 @@ module _ (map counts : List ℕ) (x : Rmap) where
       no-room : fitBoth g (length taken) (length raised) ≡ false → Tells (Refused why.Room) taken raised
       unfolding written
       no-room e =
-          by-outcome (refused 26 none) (h .only-room (length taken) (length raised) ∙ rw e refl) (Refused why.Room) taken raised (refl, (refl, refl))
+          by-outcome (refused 26 none) (h .only-room (length taken) (length raised) ∙ rw e refl) (Refused why.Room) taken raised (record { said = refl; map = refl; counts = refl })
 
       pub tells-short-map : length taken < n .plan .size → Tells (Refused why.Room) taken raised
       tells-short-map k = no-room (rw (lt-leb (length (bytesOf rmaps (g .map))) (length taken) (omega (arith, size-is))) refl)
@@ -203,4 +198,4 @@ module _ (map counts : List ℕ) (x : Rmap) where
           let v : _≡_ {A = BothSizes} (record { map = n .plan .size; counts = n .counts }) (record { map = length (bytesOf rmaps (g .map)); counts = length (bytesOf refcounts (g .counts)) }) =
           λ i. record { map = s i; counts = u i } in
           by-outcome (done g) (h .only-room (length taken) (length raised) ∙ rw t refl) (Done (record { map = n .plan .size; counts = n .counts })) taken′ raised′
-          (ap done v, (a ∙ ap (λ (l : List Rmap). withBytes taken 0 (bytesOf rmaps l)) (h .list), b))
+          (record { said = ap done v; map = a ∙ ap (λ (l : List Rmap). withBytes taken 0 (bytesOf rmaps l)) (h .list); counts = b })

@@ -28,8 +28,9 @@ use Rattle.trees.specs.Build.{planOf, AreNumbers, Places, stored}
 use Rattle.trees.specs.BuildCall.{builtBytes, buildOutcome}
 use Rattle.trees.specs.Shapes.{shapeOf}
 use Rattle.trees.specs.RoundTrip as trip
-use Rattle.lists.specs.Extent.{over, within, runs}
+use Rattle.lists.specs.Extent.{over, within, Longest}
 use Rattle.lists.specs.Holders.{holders}
+use Rattle.lists.specs.Settled.{staged}
 use Rattle.lists.specs.Edits.{insertOutcome}
 use Rattle.groups.specs.LetGo.{Gone, letGoOutcome}
 use Rattle.groups.specs.TakeHeld.{Both, takeHeldOutcome}
@@ -104,7 +105,8 @@ tookHeld g = record { lists = record { map = bytesOf rmaps (g .map); counts = by
 abbrev pub went : Gone → Left
 went g = record { lists = record { map = bytesOf rmaps (g .map); counts = bytesOf refcounts (g .counts) }; free = g .free }
 
--- each outcome is the one 01 defines, 23 of a first take being 02's, or 02 for a take of held blocks
+-- each outcome is the one 01 defines, 23 of a first take being 02's, or 02 for a take of held blocks. That a caller of `insert`, `take_held` or
+-- `let_go` then holds the lists that are left, in the buffers that it lent, is `EveryCall` of specs/Calls.antt, from the contracts alone.
 unfoldable pub step : Lists → Change → Outcome Left
 step σ (take x fits room) = mapOutcome (took σ) (insertOutcome (σ .map) x room)
 step σ (takeHeld x fits room countsRoom) = mapOutcome tookHeld (takeHeldOutcome (σ .map) (σ .counts) x room countsRoom)
@@ -193,13 +195,16 @@ pub record Claim (σ : Lists) (cs : List Change) : Type 0 where
   -- and reverse map and counts are again accepted and agree
   pub accepted : Accepted (run σ cs)
   pub agree : Agreeing (run σ cs)
+  -- staging lies over the same blocks as before
+  pub staging : (b : ℕ) → staged (recordsOf refcounts (run σ cs .counts)) b ≡ staged (recordsOf refcounts (σ .counts)) b
   -- a refused call changes neither
   pub refusals : (before : List Change) (c : Change) → At cs before c → (n : ℕ) (v : Values) → step (run σ before) c ≡ refused n v
       → run σ (before ++ (c ∷ [])) ≡ run σ before
-  -- each accepted let go offers exactly those of its blocks that no record holds after it, as longest runs, ascending
+  -- each accepted let go offers exactly those of its blocks that no record holds after it, as longest runs, ascending: extents within the one let
+  -- go, over its unheld blocks and no other, of which no two touch (`Longest` of crates/lists/specs/Extent.antt)
   pub offers : (before : List Change) (x : Rmap) (room countsRoom freeRoom : ℕ) → At cs before (letGo x room countsRoom freeRoom)
       → (w : Left) → step (run σ before) (letGo x room countsRoom freeRoom) ≡ done w
-      → w .free ≡ runs (λ b. eqb (held (w .lists) b) 0) (x .startblock) (x .blockcount)
+      → Longest (λ b. eqb (held (w .lists) b) 0) (x .startblock) (x .blockcount) (w .free)
   -- each of the two, built and stored, is returned by the walk
   pub map-returned : Returned kind.Rmap (run σ cs .map)
   pub counts-returned : Returned kind.Refcount (run σ cs .counts)

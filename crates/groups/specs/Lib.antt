@@ -4,3 +4,4 @@ pub mod Measured
 pub mod TakeHeld
 pub mod TakeHeldAnswer
 pub mod History
+pub mod Calls

@@ -1,5 +1,5 @@
--- What the answer of a take of held blocks says, and what its first half promises: all questions but 26 are asked, and the new lists are planned
--- and measured.
+-- What the answer of a take of held blocks says, and what the call answers and leaves in what was lent; and what its first half promises: all
+-- questions but 26 are asked, and the new lists are planned and measured.
 -- Assumes nothing.
 use Prim.Native.Nat.{ℕ, _≤_, _^_}
 use mathlib.Core.Path.{_≡_}
@@ -13,6 +13,7 @@ use Rattle.codec.specs.Rmaps.{end}
 use Rattle.codec.specs.Refcounts.{accepted}
 use Rattle.codec.specs.declared.rmap.Rmap.{Rmap}
 use Rattle.codec.specs.declared.refcount.Refcount.{Refcount}
+use Rattle.lists.specs.Edits.{written}
 use Rattle.lists.specs.Release.{clear}
 use Rattle.lists.specs.Raise.{ownersFit}
 use Rattle.lists.specs.Answer.{editNumber}
@@ -39,6 +40,18 @@ heldMapOf o = mapOutcome (λ g. g .map) o
 
 abbrev pub heldCountsOf : Outcome Both → Outcome (List Refcount)
 heldCountsOf o = mapOutcome (λ g. g .counts) o
+
+-- ---- the call, with what was lent before and after it
+
+-- a take of held blocks that comes to o
+pub record BothIs (o : Outcome Both) (r : TakenHeld) (taken taken′ raised raised′ : List ℕ) : Type 0 where
+  pub said : takenHeldOutcome r ≡ bothSizesOf o
+  pub map : taken′ ≡ written rmaps taken (heldMapOf o)
+  pub counts : raised′ ≡ written refcounts raised (heldCountsOf o)
+
+abbrev pub TakesHeld : (map counts : List ℕ) → Rmap → TakenHeld → (taken taken′ raised raised′ : List ℕ) → Type 0
+TakesHeld map counts x r taken taken′ raised raised′ =
+    BothIs (takeHeldOutcome map counts x (length taken) (length raised)) r taken taken′ raised raised′
 
 -- ---- the questions of both lists in order
 

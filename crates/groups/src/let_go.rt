@@ -16,10 +16,7 @@ ghost use mathlib.Core.Path.{_≡_};
 ghost use mathlib.Core.Bool.{_&&_};
 ghost use lib.Dec.{leb};
 ghost use lib.ListN.{length};
-ghost use Rattle.codec.specs.Records.{rmaps, refcounts, freeExtents};
-ghost use Rattle.lists.specs.Edits.{written};
-ghost use Rattle.groups.specs.LetGo.{letGoOutcome};
-ghost use Rattle.groups.specs.Answer.{letGoneOutcome, sizesOf, mapOf, countsOf, freeOf};
+ghost use Rattle.groups.specs.Answer.{LetsGo};
 ghost use Rattle.groups.specs.Measured.{MeasuredIs};
 
 // The new reverse map planned, and the bytes of the new counts and of the free extents.
@@ -77,10 +74,8 @@ pub fn let_go(
     lowered: &mut [u8],
     free: &mut [u8],
 ) -> LetGone
-    ensures said { λ r. ⌜ letGoneOutcome r ≡ sizesOf (letGoOutcome (now (map .entry)) (now (counts .entry)) x (length (now (kept .entry))) (length (now (lowered .entry))) (length (now (free .entry)))) ⌝ }
-    ensures map { λ _. ⌜ now (kept .exit) ≡ written rmaps (now (kept .entry)) (mapOf (letGoOutcome (now (map .entry)) (now (counts .entry)) x (length (now (kept .entry))) (length (now (lowered .entry))) (length (now (free .entry))))) ⌝ }
-    ensures counts { λ _. ⌜ now (lowered .exit) ≡ written refcounts (now (lowered .entry)) (countsOf (letGoOutcome (now (map .entry)) (now (counts .entry)) x (length (now (kept .entry))) (length (now (lowered .entry))) (length (now (free .entry))))) ⌝ }
-    ensures extents { λ _. ⌜ now (free .exit) ≡ written freeExtents (now (free .entry)) (freeOf (letGoOutcome (now (map .entry)) (now (counts .entry)) x (length (now (kept .entry))) (length (now (lowered .entry))) (length (now (free .entry))))) ⌝ }
+    ensures { λ r. ⌜ LetsGo (now (map .entry)) (now (counts .entry)) x r
+        (now (kept .entry)) (now (kept .exit)) (now (lowered .entry)) (now (lowered .exit)) (now (free .entry)) (now (free .exit)) ⌝ }
 {
     let measured = measure_both(map, counts, x);
     match measured {

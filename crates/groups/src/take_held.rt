@@ -15,11 +15,8 @@ use lists::rmap_plans::Planned;
 use lists::write::write_plan;
 ghost use mathlib.Core.Path.{_≡_};
 ghost use lib.ListN.{length};
-ghost use Rattle.codec.specs.Records.{rmaps, refcounts};
-ghost use Rattle.lists.specs.Edits.{written};
 ghost use Rattle.lists.specs.Answer.{editNumber, editedOutcome};
-ghost use Rattle.groups.specs.TakeHeld.{takeHeldOutcome};
-ghost use Rattle.groups.specs.TakeHeldAnswer.{takenHeldOutcome, bothSizesOf, heldMapOf, heldCountsOf, countsFirst, heldFirst, RaisingIs};
+ghost use Rattle.groups.specs.TakeHeldAnswer.{TakesHeld, countsFirst, heldFirst, RaisingIs};
 
 // The new reverse map planned, and the bytes of the new counts.
 pub struct Raise {
@@ -96,9 +93,8 @@ pub fn take_held(
     taken: &mut [u8],
     raised: &mut [u8],
 ) -> TakenHeld
-    ensures said { λ r. ⌜ takenHeldOutcome r ≡ bothSizesOf (takeHeldOutcome (now (map .entry)) (now (counts .entry)) x (length (now (taken .entry))) (length (now (raised .entry)))) ⌝ }
-    ensures map { λ _. ⌜ now (taken .exit) ≡ written rmaps (now (taken .entry)) (heldMapOf (takeHeldOutcome (now (map .entry)) (now (counts .entry)) x (length (now (taken .entry))) (length (now (raised .entry))))) ⌝ }
-    ensures counts { λ _. ⌜ now (raised .exit) ≡ written refcounts (now (raised .entry)) (heldCountsOf (takeHeldOutcome (now (map .entry)) (now (counts .entry)) x (length (now (taken .entry))) (length (now (raised .entry))))) ⌝ }
+    ensures { λ r. ⌜ TakesHeld (now (map .entry)) (now (counts .entry)) x r
+        (now (taken .entry)) (now (taken .exit)) (now (raised .entry)) (now (raised .exit)) ⌝ }
 {
     let measured = measure_both(map, counts, x);
     match measured {

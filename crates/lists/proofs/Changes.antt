@@ -9,11 +9,12 @@ use lib.Dec.{ltb, leb, eqb}
 use borrow.Author.Tests.{lt-ltb, le-leb, lt-leb, ne-eqb}
 use Rattle.codec.specs.declared.refcount.Refcount.{Refcount}
 use Rattle.lists.specs.Release.{stop, piece, middle, clamp, lowered, lowerAll, joinAll}
-use Rattle.lists.specs.Raise.{raised, raiseAll, full, ownersFit}
+use Rattle.lists.specs.Raise.{raised, full, ownersFit}
 use Rattle.lists.specs.Steps.{edited, fitIf}
 use Rattle.lists.specs.Passes.{fewer, more, next, fresh, share, changed, changeAll}
 use Rattle.lists.proofs.Cases.{split, tests, conj, not-false}
-use Rattle.lists.proofs.Counts.{From, Accepted}
+use Rattle.lists.proofs.Counts.{From, Accepted, lower-one}
+use Rattle.lists.proofs.Raising.{raiseOn, raiseAll-on, fullAt, full-at}
 use Rattle.lists.proofs.CountJoins.{share-none, share-piece, more-some, piece-none, clamp-low, clamp-high}
 
 -- ---- a release
@@ -26,10 +27,10 @@ lowered-is : (s e : ℕ) (r : Refcount) → lowered s e r ≡ changed false s e 
 unfolding lowered changed
 lowered-is s e r = rw (share-middle (clamp r s) (clamp r e) (r .refcount)) refl
 
-pub lowerAll-is : (s e gap : ℕ) (l : List Refcount) → lowerAll s e l ≡ changeAll false s e gap l
+lowerAll-is : (s e d gap : ℕ) (l : List Refcount) → s ≤ e → e ≤ 2 ^ 31 → From d l → lowerAll s e l ≡ changeAll false s e gap l
 unfolding lowerAll changeAll fresh share
-lowerAll-is s e gap [] = refl
-lowerAll-is s e gap (r ∷ l) = rw (lowered-is s e r, lowerAll-is s e (max gap (stop r)) l) refl
+lowerAll-is s e d gap [] h t g = refl
+lowerAll-is s e d gap (r ∷ l) h t g = rw (lower-one s e r h t (g .0), lowered-is s e r, lowerAll-is s e (stop r) (max gap (stop r)) l h t (g .2)) refl
 
 -- ---- a raise
 
@@ -37,8 +38,7 @@ share-raised : (a z n : ℕ) → n < 2 ^ 32 - 1 → piece a z (n + 1) ≡ share 
 unfolding next
 share-raised a z n h = rw (← more-some n h) (sym (share-piece a z (n + 1) (omega arith)))
 
-raised-middle : (s e : ℕ) (r : Refcount) → s ≤ e → full s e r ≡ false → piece (clamp r s) (clamp r e) (r .refcount + 1) ≡ share (clamp r s) (clamp r e) (next true (r .refcount))
-unfolding full
+raised-middle : (s e : ℕ) (r : Refcount) → s ≤ e → fullAt s e r ≡ false → piece (clamp r s) (clamp r e) (r .refcount + 1) ≡ share (clamp r s) (clamp r e) (next true (r .refcount))
 raised-middle s e r h f =
     split (leb (2 ^ 32 - 1) (r .refcount))
     (λ g. split (ltb s (stop r))
@@ -51,22 +51,24 @@ clamp-same : (r : Refcount) (s a d : ℕ) → s ≤ a → a ≤ max s d → d �
 unfolding clamp
 clamp-same r s a d h k p = omega arith
 
-raised-is : (s e : ℕ) (r : Refcount) (a : ℕ) → s ≤ e → clamp r a ≡ clamp r s → full s e r ≡ false → raised a e r ≡ changed true s e r
+raised-is : (s e : ℕ) (r : Refcount) (a : ℕ) → s ≤ e → clamp r a ≡ clamp r s → fullAt s e r ≡ false → raised a e r ≡ changed true s e r
 unfolding raised changed
 raised-is s e r a h q f = rw (q, raised-middle s e r h f) refl
 
 -- a is s, or no record that is left starts before it
-pub raiseAll-is : (s e d a : ℕ) (l : List Refcount) → s ≤ e → s ≤ a → a ≤ max s d → From d l → ownersFit s e l ≡ true → raiseAll a e l ≡ changeAll true s e a l
-unfolding raiseAll changeAll ownersFit fresh share
-raiseAll-is s e d a [] h k p g o = refl
-raiseAll-is s e d a (r ∷ l) h k p g o =
+raiseOn-is : (s e d a : ℕ) (l : List Refcount) → s ≤ e → s ≤ a → a ≤ max s d → From d l → ownersFit s e l ≡ true → raiseOn a e l ≡ changeAll true s e a l
+unfolding raiseOn changeAll ownersFit fresh share
+raiseOn-is s e d a [] h k p g o = refl
+raiseOn-is s e d a (r ∷ l) h k p g o =
     let u : not (full s e r) ≡ true = search conj in
     let v : ownersFit s e l ≡ true = search conj in
-    rw (raised-is s e r a h (clamp-same r s a d k p (g .1)) (not-false (full s e r) u), raiseAll-is s e (stop r) (max a (stop r)) l h (omega arith) (omega arith) (g .2) v)
+    rw (raised-is s e r a h (clamp-same r s a d k p (g .1)) (sym (full-at s e r (g .0)) ∙ not-false (full s e r) u), raiseOn-is s e (stop r) (max a (stop r)) l h (omega arith) (omega arith) (g .2) v)
     (sym (append-assoc (piece a (min (r .startblock) e) 2) (changed true s e r) (changeAll true s e (max a (stop r)) l)))
 
 -- ---- either
 
-pub edited-is : (up : Bool) (s e : ℕ) (l : List Refcount) → s ≤ e → Accepted l → fitIf up s e l ≡ true → edited up s e l ≡ joinAll (changeAll up s e s l)
-edited-is true s e l h g o = ap joinAll (raiseAll-is s e 0 s l h (omega arith) (omega arith) g o)
-edited-is false s e l h g o = ap joinAll (lowerAll-is s e s l)
+-- both ways agree: the edits in the papers' words, by block and mark, and the pass in the order of starts as stored
+pub edited-is : (up : Bool) (s e : ℕ) (l : List Refcount) → s ≤ e → e ≤ 2 ^ 31 → Accepted l → fitIf up s e l ≡ true
+    → edited up s e l ≡ joinAll (changeAll up s e s l)
+edited-is true s e l h t g o = ap joinAll (raiseAll-on 0 s e l (omega arith) t g ∙ raiseOn-is s e 0 s l h (omega arith) (omega arith) g o)
+edited-is false s e l h t g o = ap joinAll (lowerAll-is s e 0 s l h t g)

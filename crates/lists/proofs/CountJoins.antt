@@ -9,13 +9,15 @@ use lib.Dec.{ltb, leb, eqb}
 use lib.ListN.{length, length-append}
 use borrow.Author.Tests.{lt-ltb, le-ltb, le-leb, lt-leb, eq-eqb, ne-eqb, eqb-false}
 use Rattle.codec.specs.Records.{Kind, bytesOf, refcounts}
+use Rattle.codec.specs.Refcounts.{block, end}
 use Rattle.codec.specs.declared.refcount.Refcount.{Refcount}
 use Rattle.codec.proofs.RecordLists.{length-bytesOf, bytesOf-append}
 use Rattle.codec.proofs.RecordKinds.{refcounts-lawful}
 use Rattle.lists.specs.declared.join.Joiner.{Joiner}
-use Rattle.lists.specs.Release.{stop, piece, clamp, continues, joined, joinFrom, joinAll}
+use Rattle.lists.specs.Release.{stop, piece, clamp, alike, continues, joined, joinFrom, joinAll}
 use Rattle.lists.specs.Passes.{putIf, recordOf, pending, joinOn, goesOn, fewer, more, next, fresh, share, changed, changedFrom, Lies, Fits, Room, Cut, Pushed}
 use Rattle.lists.proofs.Cases.{split, tests, conj}
+use Rattle.lists.proofs.Counts.{Good, shared, staged, continues-is}
 use Rattle.lists.proofs.Puts.{put-nil, put-put}
 
 abbrev W : List Refcount → List ℕ
@@ -155,9 +157,39 @@ goes-facts j a n t =
     (λ g. let z : false ≡ true = rw (e, f, g) at t in absurd (let y : _≡_ {A = ℕ} 0 1 = cc in omega arith)))
     (λ f. let z : false ≡ true = rw (e, f) at t in absurd (let y : _≡_ {A = ℕ} 0 1 = cc in omega arith)))
 
+goes-true : (j : Joiner) (a n : ℕ) → eqb (j .count) 0 ≡ false → (eqb (j .start + j .count) a && eqb (j .owners) n) ≡ true → goesOn j a n ≡ true
+unfolding goesOn
+goes-true j a n p e = rw (p, e) refl
+
 -- places of n owners are fewer than 2^32
 pub short : (a z n : ℕ) → Lies a z n → a < z → 0 < n → z - a < 2 ^ 32
 short a z n f h k = split (leb n 1) (λ e. let q : n ≡ 1 = omega tests in omega (arith, f .staging q, f .end)) (λ e. omega (arith, f .shared (omega tests)))
+
+-- the record that waits is continued by places of n owners where the pass goes on
+lies-good : (r : Refcount) → Lies (r .startblock) (stop r) (r .refcount) → 0 < r .blockcount → 0 < r .refcount → Good r
+lies-good r f c o = (
+  c,
+  split (leb (r .refcount) 1)
+      (λ e. let q : r .refcount ≡ 1 = omega tests in staged (f .staging q) (f .end) q)
+      (λ e. shared (f .shared (omega tests)) (omega tests)),
+)
+
+abbrev places : ℕ → ℕ → ℕ → Refcount
+places a z n = record { startblock = a; blockcount = z - a; refcount = n }
+
+unlike : (j : Joiner) (a z n : ℕ) → eqb (j .owners) n ≡ false → continues (recordOf j) (places a z n) ≡ (eqb (j .start + j .count) a && eqb (j .owners) n)
+unfolding continues
+unlike j a z n q =
+    rw (q, and-false (eqb (end (recordOf j)) (block (places a z n))), and-false (alike (recordOf j) (places a z n))) (sym (and-false (eqb (j .start + j .count) a)))
+
+goes-on : (j : Joiner) (a z n : ℕ) → a < z → 0 < n → Lies a z n → Lies (j .start) (j .start + j .count) (j .owners) → 0 < j .count
+    → continues (recordOf j) (places a z n) ≡ (eqb (j .start + j .count) a && eqb (j .owners) n)
+goes-on j a z n h o f g c =
+    split (eqb (j .owners) 0)
+    (λ e. let q : eqb (j .owners) n ≡ false = ne-eqb (j .owners) n (λ u. omega tests) in
+    unlike j a z n q)
+    (λ e. let q : a + (z - a) ≡ z = omega arith in
+    continues-is (recordOf j) (places a z n) (lies-good (recordOf j) g c (omega (arith, eqb-false (j .owners) 0 e))) (lies-good (places a z n) (rw q f) (omega arith) o))
 
 module _ (w : Bool) (j : Joiner) (a z n : ℕ) (h : a < z) (o : 0 < n) (lies : Lies a z n) (fits : Fits j) (behind : j .start + j .count ≤ a) where
   pub joined-short : goesOn j a n ≡ true → j .count + (z - a) < 2 ^ 32
@@ -179,8 +211,8 @@ module _ (w : Bool) (j : Joiner) (a z n : ℕ) (h : a < z) (o : 0 < n) (lies : L
       step : (0 < j .count) × (j .start + j .count ≡ a) × (j .owners ≡ n) → (l : List Refcount)
           → joinOn (record { start = j .start; count = j .count + (z - a); owners = n; at = j .at }) l ≡ joinOn j (record { startblock = a; blockcount = z - a; refcount = n } ∷ l)
       step f l =
-          unfold joinOn joinFrom continues in
-          rw (ne-eqb (j .count + (z - a)) 0 (omega arith), ne-eqb (j .count) 0 (omega arith), eq-eqb (j .start + j .count) a (f .1), eq-eqb (j .owners) n (f .2), f .2) refl
+          unfold joinOn joinFrom in
+          rw (ne-eqb (j .count + (z - a)) 0 (omega arith), ne-eqb (j .count) 0 (omega arith), goes-on j a z n h o lies (fits .lies) (f .0), eq-eqb (j .start + j .count) a (f .1), eq-eqb (j .owners) n (f .2), f .2) refl
 
   pub push-next : (out out′ : List ℕ) (at : ℕ) → Room w j (length out) → goesOn j a n ≡ false → at ≡ j .at + length (W (pending j)) → out′ ≡ putIf w out (j .at) (W (pending j))
       → Pushed w j out (share a z n) z (record { start = a; count = z - a; owners = n; at = at }) out′
@@ -208,7 +240,10 @@ module _ (w : Bool) (j : Joiner) (a z n : ℕ) (h : a < z) (o : 0 < n) (lies : L
           go : (s t : Bool) → eqb (j .count) 0 ≡ s → continues (recordOf j) (record { startblock = a; blockcount = z - a; refcount = n }) ≡ t
               → joinOn j (record { startblock = a; blockcount = z - a; refcount = n } ∷ l) ≡ pending j ++ joinFrom (record { startblock = a; blockcount = z - a; refcount = n }) l
           go true t p q = unfold joinOn joinAll pending in rw p refl
-          go false true p q = let y : _≡_ {A = Bool} true false = unfold goesOn continues in (sym (rw (p, q) refl) ∙ g) in cc
+          go false true p q =
+              let e : (eqb (j .start + j .count) a && eqb (j .owners) n) ≡ true = sym (goes-on j a z n h o lies (fits .lies) (omega (arith, eqb-false (j .count) 0 p))) ∙ q in
+              let y : _≡_ {A = Bool} true false = sym (goes-true j a n p e) ∙ g in
+              cc
           go false false p q = unfold joinOn joinFrom pending in rw (p, q) refl
 
 module _ (j : Joiner) (a n : ℕ) where

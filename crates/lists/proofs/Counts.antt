@@ -1,18 +1,18 @@
 -- Acceptance of the counts (21) as facts, the owners over each block before and after a release, and that a release keeps 21.
 -- Assumes nothing.
-use Prim.Native.Nat.{ℕ, _+_, _-_, _^_, _≤_, _<_}
-use mathlib.Core.Bool.{true, false, cond, _&&_}
+use Prim.Native.Nat.{ℕ, _+_, _-_, _%_, _^_, _≤_, _<_}
+use mathlib.Core.Bool.{Bool, true, false, cond, _&&_, and-false}
 use mathlib.Core.Path.{_≡_, refl, sym, ap, _∙_}
 use mathlib.Core.List.{List, [], _∷_, _++_, append-assoc}
 use native.Mathlib.Omega.{arith}
 use native.Mathlib.Nat.{add-zero, zero-add, add-assoc}
 use lib.Dec.{ltb, leb, eqb}
-use borrow.Author.Tests.{lt-ltb, le-leb, lt-leb, eq-eqb}
+use borrow.Author.Tests.{lt-ltb, le-ltb, le-leb, lt-leb, eq-eqb, ne-eqb, eqb-false}
 use Rattle.codec.specs.Records.{AllStorable, refcounts}
 use Rattle.codec.specs.Refcounts.{staging, accepted}
 use Rattle.codec.specs.declared.refcount.Refcount.{Refcount}
 use Rattle.lists.specs.Extent.{within}
-use Rattle.lists.specs.Release.{owners, stop, piece, clamp, middle, lowered, lowerAll, continues, joined, joinFrom, joinAll, release}
+use Rattle.lists.specs.Release.{owners, stop, piece, clamp, middle, lowered, lowerAll, alike, continues, joined, joinFrom, joinAll, release}
 use Rattle.lists.specs.Passes.{fewer}
 use Rattle.lists.proofs.Cases.{split, tests, conj, and-true, below, within-sum, within-in, within-left, within-right}
 use Rattle.lists.proofs.Places.{goodKind, acceptedFrom, Short, storable-short, accepted-place}
@@ -174,26 +174,77 @@ lowered-at s e r b h =
 
 -- ---- the whole list
 
-lowerAll-at : (s e d : ℕ) (l : List Refcount) (b : ℕ) → s ≤ e → From d l → at (lowerAll s e l) b ≡ lower s e b (at l b)
+-- an extent that ends by 2^31 does not reach a staging record where that stands in the list's order
+pub clamp-before : (r : Refcount) (a : ℕ) → a ≤ r .startblock → clamp r a ≡ r .startblock
+unfolding clamp
+clamp-before r a h = omega arith
+
+pub piece-whole : (r : Refcount) → 0 < r .blockcount → piece (r .startblock) (stop r) (r .refcount) ≡ r ∷ []
+unfolding piece
+piece-whole r n =
+    let q : stop r - r .startblock ≡ r .blockcount = omega arith in rw (lt-ltb (r .startblock) (stop r) (omega arith), q) refl
+
+pub piece-empty : (a z n : ℕ) → z ≤ a → piece a z n ≡ []
+unfolding piece
+piece-empty a z n h = rw (le-ltb a z h) refl
+
+middle-empty : (a n : ℕ) → middle a a n ≡ []
+unfolding middle
+middle-empty a n = split (leb n 2) (λ e. rw e refl) (λ e. rw e (piece-empty a a (n - 1) (omega arith)))
+
+pub staging-start : (r : Refcount) → staging r ≡ true → 2 ^ 31 ≤ r .startblock
+unfolding staging
+staging-start r e = omega tests
+
+lowered-beyond : (s e : ℕ) (r : Refcount) → s ≤ r .startblock → e ≤ r .startblock → 0 < r .blockcount → lowered s e r ≡ r ∷ []
+unfolding lowered
+lowered-beyond s e r h k n =
+    rw (clamp-before r s h, clamp-before r e k, piece-empty (r .startblock) (r .startblock) (r .refcount) (omega arith), middle-empty (r .startblock) (r .refcount)) (piece-whole r n)
+
+pub lower-one : (s e : ℕ) (r : Refcount) → s ≤ e → e ≤ 2 ^ 31 → Good r → cond (staging r) (r ∷ []) (lowered s e r) ≡ lowered s e r
+lower-one s e r h t g =
+    split (staging r)
+    (λ f. let p = staging-start r f in rw f (sym (lowered-beyond s e r (omega arith) (omega arith) (g .0))))
+    (λ f. rw f refl)
+
+lowerAll-at : (s e d : ℕ) (l : List Refcount) (b : ℕ) → s ≤ e → e ≤ 2 ^ 31 → From d l → at (lowerAll s e l) b ≡ lower s e b (at l b)
 unfolding at lowerAll
-lowerAll-at s e d [] b h k = rw lower-zero refl
-lowerAll-at s e d (r ∷ l) b h k =
-    split (ltb b (stop r))
-    (λ f. rw (at-append, lowered-at s e r b h, lowerAll-at s e (stop r) l b h (k .2), at-left (stop r) l b (k .2) (omega tests), lower-zero, add-zero) (rw add-zero refl))
-    (λ f. rw (at-append, lowered-at s e r b h, lowerAll-at s e (stop r) l b h (k .2), within-right (r .startblock) (r .blockcount) (r .refcount) b (omega tests), lower-zero) (rw zero-add (rw zero-add refl)))
+lowerAll-at s e d [] b h t k = rw lower-zero refl
+lowerAll-at s e d (r ∷ l) b h t k =
+    rw (lower-one s e r h t (k .0))
+    (split (ltb b (stop r))
+    (λ f. rw (at-append, lowered-at s e r b h, lowerAll-at s e (stop r) l b h t (k .2), at-left (stop r) l b (k .2) (omega tests), lower-zero, add-zero) (rw add-zero refl))
+    (λ f. rw (at-append, lowered-at s e r b h, lowerAll-at s e (stop r) l b h t (k .2), within-right (r .startblock) (r .blockcount) (r .refcount) b (omega tests), lower-zero) (rw zero-add (rw zero-add refl))))
 
 -- ---- joins
 
-continues-facts : (r s : Refcount) → continues r s ≡ true → (stop r ≡ s .startblock) × (r .refcount ≡ s .refcount)
-unfolding continues
-continues-facts r s e =
+-- in the list's order s begins where r stops
+pub continues-is : (r s : Refcount) → Good r → Good s → continues r s ≡ (eqb (stop r) (s .startblock) && eqb (r .refcount) (s .refcount))
+unfolding continues alike staging
+continues-is r s (n, shared p q) (m, shared p′ q′) =
+    let a : r .startblock % 2 ^ 31 ≡ r .startblock = omega arith in
+    let b : s .startblock % 2 ^ 31 ≡ s .startblock = omega arith in
+    rw (lt-leb (2 ^ 31) (r .startblock) (omega arith), lt-leb (2 ^ 31) (s .startblock) (omega arith), a, b) refl
+continues-is r s (n, shared p q) (m, staged p′ q′ t′) =
+    rw (lt-leb (2 ^ 31) (r .startblock) (omega arith), le-leb (2 ^ 31) (s .startblock) p′, ne-eqb (r .refcount) (s .refcount) (λ u. omega arith)) (sym (and-false (eqb (stop r) (s .startblock))))
+continues-is r s (n, staged p q t) (m, shared p′ q′) =
+    rw (le-leb (2 ^ 31) (r .startblock) p, lt-leb (2 ^ 31) (s .startblock) (omega arith), ne-eqb (r .refcount) (s .refcount) (λ u. omega arith)) (sym (and-false (eqb (stop r) (s .startblock))))
+continues-is r s (n, staged p q t) (m, staged p′ q′ t′) =
+    let same : eqb (r .startblock % 2 ^ 31 + r .blockcount) (s .startblock % 2 ^ 31) ≡ eqb (stop r) (s .startblock) =
+    split (eqb (stop r) (s .startblock))
+    (λ e. rw e (eq-eqb (r .startblock % 2 ^ 31 + r .blockcount) (s .startblock % 2 ^ 31) (omega tests)))
+    (λ e. rw e (ne-eqb (r .startblock % 2 ^ 31 + r .blockcount) (s .startblock % 2 ^ 31) (λ u. eqb-false (stop r) (s .startblock) e (omega arith)))) in
+    rw (le-leb (2 ^ 31) (r .startblock) p, le-leb (2 ^ 31) (s .startblock) p′, same) refl
+
+continues-facts : (r s : Refcount) → Good r → Good s → continues r s ≡ true → (stop r ≡ s .startblock) × (r .refcount ≡ s .refcount)
+continues-facts r s g g′ e =
+    let t : (eqb (stop r) (s .startblock) && eqb (r .refcount) (s .refcount)) ≡ true = sym (continues-is r s g g′) ∙ e in
     let h : eqb (stop r) (s .startblock) ≡ true = search conj in
     let k : eqb (r .refcount) (s .refcount) ≡ true = search conj in
     (omega tests, omega tests)
 
-joined-at : (r s : Refcount) (b : ℕ) → continues r s ≡ true → within (r .startblock) (r .blockcount + s .blockcount) (r .refcount) b ≡ within (r .startblock) (r .blockcount) (r .refcount) b + within (s .startblock) (s .blockcount) (s .refcount) b
-joined-at r s b e =
-    let h = continues-facts r s e in
+joined-at : (r s : Refcount) (b : ℕ) → (stop r ≡ s .startblock) × (r .refcount ≡ s .refcount) → within (r .startblock) (r .blockcount + s .blockcount) (r .refcount) b ≡ within (r .startblock) (r .blockcount) (r .refcount) b + within (s .startblock) (s .blockcount) (s .refcount) b
+joined-at r s b h =
     rw (← (h .1), ← (h .0))
     (omega (
       arith,
@@ -203,21 +254,29 @@ joined-at r s b e =
       ap (λ (k : ℕ). below k (r .refcount) b) (add-assoc (r .startblock) (r .blockcount) (s .blockcount)),
     ))
 
-joinFrom-at : (r : Refcount) (l : List Refcount) (b : ℕ) → at (joinFrom r l) b ≡ within (r .startblock) (r .blockcount) (r .refcount) b + at l b
+kind-joined : (r s : Refcount) → stop r ≡ s .startblock → r .refcount ≡ s .refcount → 0 < s .blockcount → OfKind r → OfKind s → OfKind (joined r s)
+kind-joined r s a o n (shared p q) (shared p′ q′) = shared (omega arith) (omega arith)
+kind-joined r s a o n (shared p q) (staged p′ q′ u′) = shared (omega arith) (omega arith)
+kind-joined r s a o n (staged p q u) (shared p′ q′) = shared (omega arith) (omega arith)
+kind-joined r s a o n (staged p q u) (staged p′ q′ u′) = staged (omega arith) (omega arith) (omega arith)
+
+joined-from : (d : ℕ) (r s : Refcount) (l : List Refcount) → From d (r ∷ (s ∷ l)) → continues r s ≡ true → From d (joined r s ∷ l)
+joined-from d r s l h e =
+    let t = continues-facts r s (h .0) (h .2 .0) e in
+    ((omega (arith, h .0 .0), kind-joined r s (t .0) (t .1) (h .2 .0 .0) (h .0 .1) (h .2 .0 .1)), h .1, weaken (stop (joined r s)) (stop s) l (omega arith) (h .2 .2))
+
+joinFrom-at : (d : ℕ) (r : Refcount) (l : List Refcount) (b : ℕ) → From d (r ∷ l) → at (joinFrom r l) b ≡ within (r .startblock) (r .blockcount) (r .refcount) b + at l b
 unfolding at joinFrom
-joinFrom-at r [] b = refl
-joinFrom-at r (s ∷ l) b =
+joinFrom-at d r [] b h = refl
+joinFrom-at d r (s ∷ l) b h =
     split (continues r s)
-    (λ e. rw e (omega (arith, joinFrom-at (joined r s) l b, joined-at r s b e)))
-    (λ e. rw e (omega (arith, joinFrom-at s l b)))
+    (λ e. rw e (omega (arith, joinFrom-at d (joined r s) l b (joined-from d r s l h e), joined-at r s b (continues-facts r s (h .0) (h .2 .0) e))))
+    (λ e. rw e (omega (arith, joinFrom-at (stop r) s l b (h .2))))
 
-pub joinAll-at : (l : List Refcount) (b : ℕ) → at (joinAll l) b ≡ at l b
+pub joinAll-at : (d : ℕ) (l : List Refcount) (b : ℕ) → From d l → at (joinAll l) b ≡ at l b
 unfolding joinAll at
-joinAll-at [] b = refl
-joinAll-at (r ∷ l) b = joinFrom-at r l b
-
-pub release-at : (s e : ℕ) (l : List Refcount) (b : ℕ) → s ≤ e → Accepted l → at (release s e l) b ≡ lower s e b (at l b)
-release-at s e l b h k = joinAll-at (lowerAll s e l) b ∙ lowerAll-at s e 0 l b h k
+joinAll-at d [] b h = refl
+joinAll-at d (r ∷ l) b h = joinFrom-at d r l b h
 
 -- ---- acceptance
 
@@ -251,24 +310,18 @@ lowered-from d s e r m h p g k =
     (middle-from (clamp r s) r (clamp r s) (clamp r e) _ (g .1) (omega arith) (omega arith) (omega arith) (omega arith)
     (piece-from (clamp r e) (clamp r e) (stop r) (r .refcount) m (omega arith) (omega arith) (λ u. kind-piece r (clamp r e) (stop r) (g .1) (omega arith) u (omega arith)) k)))
 
-lowerAll-from : (d s e : ℕ) (l : List Refcount) → s ≤ e → From d l → From d (lowerAll s e l)
+lowerAll-from : (d s e : ℕ) (l : List Refcount) → s ≤ e → e ≤ 2 ^ 31 → From d l → From d (lowerAll s e l)
 unfolding lowerAll
-lowerAll-from d s e [] h k = tt
-lowerAll-from d s e (r ∷ l) h k = lowered-from d s e r (lowerAll s e l) h (k .1) (k .0) (lowerAll-from (stop r) s e l h (k .2))
-
-kind-joined : (r s : Refcount) → stop r ≡ s .startblock → r .refcount ≡ s .refcount → 0 < s .blockcount → OfKind r → OfKind s → OfKind (joined r s)
-kind-joined r s a o n (shared p q) (shared p′ q′) = shared (omega arith) (omega arith)
-kind-joined r s a o n (shared p q) (staged p′ q′ u′) = shared (omega arith) (omega arith)
-kind-joined r s a o n (staged p q u) (shared p′ q′) = shared (omega arith) (omega arith)
-kind-joined r s a o n (staged p q u) (staged p′ q′ u′) = staged (omega arith) (omega arith) (omega arith)
+lowerAll-from d s e [] h t k = tt
+lowerAll-from d s e (r ∷ l) h t k =
+    rw (lower-one s e r h t (k .0)) (lowered-from d s e r (lowerAll s e l) h (k .1) (k .0) (lowerAll-from (stop r) s e l h t (k .2)))
 
 joinFrom-from : (d : ℕ) (r : Refcount) (l : List Refcount) → From d (r ∷ l) → From d (joinFrom r l)
 unfolding joinFrom
 joinFrom-from d r [] h = h
 joinFrom-from d r (s ∷ l) h =
     split (continues r s)
-    (λ e. let t = continues-facts r s e in
-    rw e (joinFrom-from d (joined r s) l ((omega arith, kind-joined r s (t .0) (t .1) (h .2 .0 .0) (h .0 .1) (h .2 .0 .1)), h .1, weaken (stop (joined r s)) (stop s) l (omega arith) (h .2 .2))))
+    (λ e. rw e (joinFrom-from d (joined r s) l (joined-from d r s l h e)))
     (λ e. rw e (h .0, h .1, joinFrom-from (stop r) s l (h .2)))
 
 pub joinAll-from : (d : ℕ) (l : List Refcount) → From d l → From d (joinAll l)
@@ -276,8 +329,11 @@ unfolding joinAll
 joinAll-from d [] h = tt
 joinAll-from d (r ∷ l) h = joinFrom-from d r l h
 
-pub release-from : (s e : ℕ) (l : List Refcount) → s ≤ e → Accepted l → Accepted (release s e l)
-release-from s e l h k = joinAll-from 0 (lowerAll s e l) (lowerAll-from 0 s e l h k)
+pub release-from : (s e : ℕ) (l : List Refcount) → s ≤ e → e ≤ 2 ^ 31 → Accepted l → Accepted (release s e l)
+release-from s e l h t k = joinAll-from 0 (lowerAll s e l) (lowerAll-from 0 s e l h t k)
+
+pub release-at : (s e : ℕ) (l : List Refcount) (b : ℕ) → s ≤ e → e ≤ 2 ^ 31 → Accepted l → at (release s e l) b ≡ lower s e b (at l b)
+release-at s e l b h t k = joinAll-at 0 (lowerAll s e l) b (lowerAll-from 0 s e l h t k) ∙ lowerAll-at s e 0 l b h t k
 
 -- ---- owners over each block
 
@@ -309,9 +365,9 @@ owners-high e (r ∷ l) b h p =
     rw f (omega (arith, within-right (r .startblock) (r .blockcount) (r .refcount) b (omega arith), owners-high (stop r) l b (h .2) p)))
 
 -- one fewer over the blocks from s up to e, none where there were two, and as many elsewhere
-pub release-owners : (s e : ℕ) (l : List Refcount) (b : ℕ) → s ≤ e → Accepted l → owners (release s e l) b ≡ lower s e b (owners l b)
-release-owners s e l b h k =
+pub release-owners : (s e : ℕ) (l : List Refcount) (b : ℕ) → s ≤ e → e ≤ 2 ^ 31 → Accepted l → owners (release s e l) b ≡ lower s e b (owners l b)
+release-owners s e l b h t k =
     split (ltb b (2 ^ 31))
-    (λ f. let p : b < 2 ^ 31 = omega tests in rw (owners-at (release s e l) b p, owners-at l b p) (release-at s e l b h k))
+    (λ f. let p : b < 2 ^ 31 = omega tests in rw (owners-at (release s e l) b p, owners-at l b p) (release-at s e l b h t k))
     (λ f. let p : 2 ^ 31 ≤ b = omega tests in
-    rw (owners-high 0 (release s e l) b (release-from s e l h k) p, owners-high 0 l b k p, lower-zero) refl)
+    rw (owners-high 0 (release s e l) b (release-from s e l h t k) p, owners-high 0 l b k p, lower-zero) refl)

@@ -1,7 +1,7 @@
 -- The results of the edits can be stored: each number fits the bytes of its field.
 -- Assumes nothing.
 use Prim.Native.Nat.{ℕ, zero, suc, _+_, _-_, _^_, _≤_, _<_}
-use mathlib.Core.Bool.{Bool, true}
+use mathlib.Core.Bool.{Bool, true, cond}
 use mathlib.Core.Path.{_≡_, refl}
 use mathlib.Core.List.{List, [], _∷_, _++_}
 use mathlib.Core.Option.{Option, none, some}
@@ -9,6 +9,7 @@ use native.Mathlib.Omega.{arith}
 use lib.Dec.{ltb, leb, eqb}
 use Rattle.codec.specs.Records.{AllStorable, RmapFits, rmaps, RefcountFits, refcounts, freeExtents}
 use Rattle.codec.specs.Rmaps.{end, fileOffset, exempt, before, least}
+use Rattle.codec.specs.Refcounts.{staging}
 use Rattle.codec.specs.declared.rmap.Rmap.{Rmap}
 use Rattle.codec.specs.declared.refcount.Refcount.{Refcount}
 use Rattle.codec.specs.declared.free_extent.FreeExtent.{FreeExtent}
@@ -165,7 +166,10 @@ narrow-lowered s e r h =
 narrow-lowerAll : (s e : ℕ) (l : List Refcount) → All Narrow l → All Narrow (R.lowerAll s e l)
 unfolding R.lowerAll
 narrow-lowerAll s e [] h = tt
-narrow-lowerAll s e (r ∷ l) h = all-append Narrow (R.lowered s e r) (R.lowerAll s e l) (narrow-lowered s e r (h .0)) (narrow-lowerAll s e l (h .1))
+narrow-lowerAll s e (r ∷ l) h =
+    all-append Narrow (cond (staging r) (r ∷ []) (R.lowered s e r)) (R.lowerAll s e l)
+    (split (staging r) (λ f. rw f (h .0, tt)) (λ f. rw f (narrow-lowered s e r (h .0))))
+    (narrow-lowerAll s e l (h .1))
 
 narrow-joinFrom : (r : Refcount) (l : List Refcount) → Narrow r → All Narrow l → All Narrow (R.joinFrom r l)
 unfolding R.joinFrom
@@ -189,9 +193,9 @@ pub narrow-storable : (e : ℕ) (l : List Refcount) → C.From e l → All Narro
 narrow-storable e [] h k = tt
 narrow-storable e (r ∷ l) h k = (narrow-fits r (h .0 .0) (h .0 .1) (k .0), narrow-storable (R.stop r) l (h .2) (k .1))
 
-pub storable-release : (s e : ℕ) (l : List Refcount) → s ≤ e → C.Accepted l → AllStorable refcounts l → AllStorable refcounts (R.release s e l)
-storable-release s e l h g k =
-    narrow-storable 0 (R.release s e l) (C.release-from s e l h g) (narrow-joinAll (R.lowerAll s e l) (narrow-lowerAll s e l (storable-narrow l k)))
+pub storable-release : (s e : ℕ) (l : List Refcount) → s ≤ e → e ≤ 2 ^ 31 → C.Accepted l → AllStorable refcounts l → AllStorable refcounts (R.release s e l)
+storable-release s e l h t g k =
+    narrow-storable 0 (R.release s e l) (C.release-from s e l h t g) (narrow-joinAll (R.lowerAll s e l) (narrow-lowerAll s e l (storable-narrow l k)))
 
 -- ---- free extents lie in the extent
 

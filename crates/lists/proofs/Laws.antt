@@ -108,10 +108,10 @@ release-lets start count l h a s =
     let k : C.Accepted l = C.accepted-facts l s a in
     let e : ℕ = start + count in
     record {
-      accepted = C.facts-accepted (release start e l) (C.release-from start e l (omega arith) k);
-      stored = storable-release start e l (omega arith) k s;
+      accepted = C.facts-accepted (release start e l) (C.release-from start e l (omega arith) h k);
+      stored = storable-release start e l (omega arith) h k s;
       free-stored = storable-unshared l start count h;
-      owned = λ b. C.release-owners start e l b (omega arith) k;
+      owned = λ b. C.release-owners start e l b (omega arith) h k;
       free-blocks = λ b. lies-runs (λ c. eqb (owners l c) 0) start count b;
       free-runs = apart-runs (λ c. eqb (owners l c) 0) start count;
     }

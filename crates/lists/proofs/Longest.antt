@@ -9,8 +9,9 @@ use native.Mathlib.Omega.{arith}
 use lib.Dec.{leb, eqb}
 use borrow.Author.Tests.{le-ltb, lt-leb, eqb-false}
 use Rattle.codec.specs.declared.free_extent.FreeExtent.{FreeExtent}
-use Rattle.lists.specs.Extent.{over, grow, runs, lies, Apart, Longest}
+use Rattle.lists.specs.Extent.{over, grow, runs, lies, Apart, Inside, Longest}
 use Rattle.lists.proofs.Cases.{split, tests, over-facts, facts-over}
+use Rattle.lists.proofs.Fits.{All, inside-runs}
 
 -- ---- the blocks
 
@@ -80,8 +81,13 @@ apart-runs p s (suc n) =
     (λ e. rw e (apart-grow s (runs p (suc s) n) (apart-runs p (suc s) n)))
     (λ e. rw e (apart-weaken s (suc s) (runs p (suc s) n) (omega arith) (apart-runs p (suc s) n)))
 
+each-inside : (s n : ℕ) (fs : List FreeExtent) → All (λ f. (s ≤ f .startblock) × (f .startblock + f .blockcount ≤ s + n)) fs → Inside s n fs
+each-inside s n [] h = tt
+each-inside s n (f ∷ fs) h = (h .0 .0, h .0 .1, each-inside s n fs (h .1))
+
 pub longest-runs : (p : ℕ → Bool) (s n : ℕ) → Longest p s n (runs p s n)
-longest-runs p s n = record { blocks = lies-runs p s n; apart = apart-runs p s n }
+longest-runs p s n =
+    record { inside = each-inside s n (runs p s n) (inside-runs p s n (s + n) (omega arith)); blocks = lies-runs p s n; apart = apart-runs p s n }
 
 -- ---- and no other list is so
 

@@ -17,7 +17,7 @@ use Rattle.lists.specs.Raise.{raise, ownersFit}
 use Rattle.lists.specs.Settled.{PartedFrom, Parted, staged, Settled}
 use Rattle.lists.proofs.Cases.{split, tests, and-true, within-in, within-right}
 use Rattle.lists.proofs.Counts as C
-use Rattle.lists.proofs.Counts.{OfKind, From, at, at-left, owners-at, weaken, accepted-facts}
+use Rattle.lists.proofs.Counts.{OfKind, Good, From, continues-is, at, at-left, owners-at, weaken, accepted-facts}
 use Rattle.lists.proofs.Raising.{kind-some, Lifted, raise-lifts}
 use Rattle.lists.proofs.Laws.{LetGo, release-lets}
 use Rattle.lists.proofs.Settling.{staged-at, release-settles, raise-settles}
@@ -37,18 +37,18 @@ unfolding at
 at-none b = refl
 
 -- where r stops, no record goes on with as many owners
-stops : (r : Refcount) (l : List Refcount) → From (stop r) l → PartedFrom r l → 0 < r .refcount → at l (stop r) ≡ r .refcount → ⊥
-stops r [] h p n e = omega (arith, at-none (stop r))
-stops r (q ∷ l) h p n e =
+stops : (r : Refcount) (l : List Refcount) → Good r → From (stop r) l → PartedFrom r l → at l (stop r) ≡ r .refcount → ⊥
+stops r [] g h p e = omega (arith, at-none (stop r), kind-some r (g .1))
+stops r (q ∷ l) g h p e =
     split (leb (q .startblock) (stop r))
     (λ t. let a : stop r ≡ q .startblock = omega (tests, h .1) in
     let o : r .refcount ≡ q .refcount = omega (arith, at-first (stop r) q l (stop r) h (omega arith) (omega (arith, h .0 .0))) in
     unlike a o (p .0))
-    (λ t. omega (tests, at-left (q .startblock) (q ∷ l) (stop r) (h .0, omega arith, h .2) (omega tests)))
+    (λ t. omega (tests, at-left (q .startblock) (q ∷ l) (stop r) (h .0, omega arith, h .2) (omega tests), kind-some r (g .1)))
   where
     unlike : stop r ≡ q .startblock → r .refcount ≡ q .refcount → continues r q ≡ false → ⊥
     unlike a o f =
-        let t : continues r q ≡ true = unfold continues in and-true _ _ (eq-eqb (stop r) (q .startblock) a) (eq-eqb (r .refcount) (q .refcount) o) in
+        let t : continues r q ≡ true = continues-is r q g (h .0) ∙ and-true _ _ (eq-eqb (stop r) (q .startblock) a) (eq-eqb (r .refcount) (q .refcount) o) in
         let z : _≡_ {A = ℕ} 0 1 = cc in
         omega arith
 
@@ -78,7 +78,7 @@ module _ (d : ℕ) (r s : Refcount) (l m : List Refcount) (h : From d (r ∷ l))
   end-least : r .startblock ≡ s .startblock → PartedFrom r l → stop s ≤ stop r
   end-least a p =
       split (leb (stop s) (stop r)) (λ t. omega tests)
-      (λ t. absurd (stops r l (h .2) p (kind-some r (h .0 .1))
+      (λ t. absurd (stops r l (h .0) (h .2) p
       (sym (at-behind r l (stop r) (omega arith)) ∙ e (stop r) ∙ at-first d s m (stop r) k (omega arith) (omega tests) ∙ sym (same-owners a))))
 
 parted-rest : (r : Refcount) (l : List Refcount) → PartedFrom r l → Parted l

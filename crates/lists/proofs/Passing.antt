@@ -317,7 +317,7 @@ module _ (up write list : Bool) (all : List Refcount) (start count : ℕ) (new�
         end = ask .end;
         counts =
             λ u. let k = accepted-facts all h (ask .accepted u) in
-            rw (edited-is up start (start + count) all (omega arith) k (ask .owners u)) at (ask .counts u);
+            rw (edited-is up start (start + count) all (omega arith) (ask .end) k (ask .owners u)) at (ask .counts u);
         extents =
             λ u. let k = accepted-facts all h (ask .accepted (ask .listed u)) in
             rw (unshared-gaps all start count k (ask .end)) at (ask .free u);
@@ -345,7 +345,7 @@ module _ (up write list : Bool) (all : List Refcount) (start count : ℕ) (new�
         unfolding passOutcome
         told-done n m st o a b =
             let facts = accepted-facts all st h in
-            let p = edited-is up start (start + count) all (omega arith) facts o in
+            let p = edited-is up start (start + count) all (omega arith) (ask .end) facts o in
             let q = unshared-gaps all start count facts (ask .end) in (
               rw (h, k, o, p, q, a .0, b .0) refl,
               (λ u. rw p (put-done write new₀ new′ 0 _ (a .1) u), λ u. rw q (put-done list free₀ free′ 0 _ (b .1) u)),

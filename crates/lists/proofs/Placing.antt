@@ -26,7 +26,7 @@ use Rattle.lists.specs.declared.rmap_plans.Planned.the-variants as plann
 use Rattle.lists.specs.Held.{heldNone}
 use Rattle.lists.specs.RmapEdits.{any, continues, joined, overlaps, later}
 use Rattle.lists.specs.Edits.{written}
-use Rattle.lists.specs.Answer.{editNumber, editedOutcome, lengthOf}
+use Rattle.lists.specs.Answer.{editNumber, lengthOf, EditIs}
 use Rattle.lists.specs.RmapPlans.{allowed, edited, editBefore26, editOutcome, indexWhere, noOverlap, joinAt, partsOf, partCount, listOf, PartsGood, PlanGood, TakeGood, AskedIs, PlanIs, PlannedGood, plannedOutcome, roomed}
 use Rattle.lists.proofs.Cases.{or-l}
 use Rattle.lists.proofs.Index.{index-le, any-index}
@@ -114,31 +114,31 @@ module _ (e : Edit) (b : List ℕ) (x : Rmap) where
 
   module _ (o : List ℕ) where
     pub edit-refused : (q : EditRefusal) → PlanIs e b x (planned.Refused q)
-        → (editedOutcome (said.Refused q) ≡ lengthOf rmaps (editOutcome e b x (length o))) × (o ≡ written rmaps o (editOutcome e b x (length o)))
+        → EditIs (editOutcome e b x (length o)) (said.Refused q) o o
     unfolding plannedOutcome roomed written
     edit-refused q h =
         let a : refused (editNumber q) none ≡ editOutcome e b x (length o) = ap (roomed (length o)) (h .0) ∙ room-asked e b x (length o) in
-        (ap (lengthOf rmaps) a, ap (written rmaps o) a)
+        record { said = ap (lengthOf rmaps) a; wrote = ap (written rmaps o) a }
 
     module _ (p : Plan) (h : PlanIs e b x (planned.Ready p)) where
-      pub edit-short : length o < p .size → (editedOutcome (said.Refused why.Room) ≡ lengthOf rmaps (editOutcome e b x (length o))) × (o ≡ written rmaps o (editOutcome e b x (length o)))
+      pub edit-short : length o < p .size → EditIs (editOutcome e b x (length o)) (said.Refused why.Room) o o
       unfolding plannedOutcome roomed written
       edit-short k =
           let l : List Rmap = listOf (recordsOf rmaps b) p in
           let n : leb (length (bytesOf rmaps l)) (length o) ≡ false = lt-leb (length (bytesOf rmaps l)) (length o) (omega (arith, h .1 .size)) in
           let a : roomed (length o) (done l) ≡ editOutcome e b x (length o) = ap (roomed (length o)) (h .0) ∙ room-asked e b x (length o) in
           let c : refused 26 none ≡ editOutcome e b x (length o) = rw n at a in
-          (ap (lengthOf rmaps) c, ap (written rmaps o) c)
+          record { said = ap (lengthOf rmaps) c; wrote = ap (written rmaps o) c }
 
       pub edit-done : (o₁ : List ℕ) → p .size ≤ length o → o₁ ≡ withBytes o 0 (bytesOf rmaps (listOf (recordsOf rmaps b) p))
-          → (editedOutcome (said.Done (p .size)) ≡ lengthOf rmaps (editOutcome e b x (length o))) × (o₁ ≡ written rmaps o (editOutcome e b x (length o)))
+          → EditIs (editOutcome e b x (length o)) (said.Done (p .size)) o o₁
       unfolding plannedOutcome roomed written
       edit-done o₁ k w =
           let l : List Rmap = listOf (recordsOf rmaps b) p in
           let n : leb (length (bytesOf rmaps l)) (length o) ≡ true = le-leb (length (bytesOf rmaps l)) (length o) (omega (arith, h .1 .size)) in
           let a : roomed (length o) (done l) ≡ editOutcome e b x (length o) = ap (roomed (length o)) (h .0) ∙ room-asked e b x (length o) in
           let c : done l ≡ editOutcome e b x (length o) = rw n at a in
-          (ap (λ (m : ℕ). done m) (h .1 .size) ∙ ap (lengthOf rmaps) c, w ∙ ap (written rmaps o) c)
+          record { said = ap (λ (m : ℕ). done m) (h .1 .size) ∙ ap (lengthOf rmaps) c; wrote = w ∙ ap (written rmaps o) c }
 
 -- ---- 23 of both inserts by the index of the first record that is in the way
 

@@ -12,6 +12,7 @@ use Rattle.codec.specs.Bytes.{IsBytes}
 use Rattle.codec.specs.Question.{Outcome, done, ask, answer}
 use Rattle.codec.specs.Records.{recordsOf, AllStorable, refcounts}
 use Rattle.codec.specs.Refcounts as refcount
+use Rattle.codec.specs.Refcounts.{staging}
 use Rattle.codec.specs.declared.refcount.Refcount.{Refcount}
 use Rattle.codec.proofs.Meaning.{done-means}
 use Rattle.codec.proofs.RecordKinds.{refcounts-lawful}
@@ -21,7 +22,7 @@ use Rattle.lists.specs.Release.{owners, clear, stop, piece, clamp, joinA
 use Rattle.lists.specs.Raise.{raised, raiseAll, raise, full, ownersFit, raiseOutcome}
 use Rattle.lists.specs.Edits.{countQuestions}
 use Rattle.lists.proofs.Cases.{split, tests, conj, not-false, within-in, within-left, within-right}
-use Rattle.lists.proofs.Counts.{OfKind, shared, staged, Good, From, Accepted, accepted-facts, facts-accepted, weaken, at, at-append, at-left, owners-at, owners-high, piece-in, piece-left, piece-right, kind-piece, joinAll-at, joinAll-from, piece-from}
+use Rattle.lists.proofs.Counts.{OfKind, shared, staged, Good, From, Accepted, accepted-facts, facts-accepted, weaken, at, at-append, at-left, owners-at, owners-high, piece-in, piece-left, piece-right, clamp-before, piece-whole, piece-empty, staging-start, kind-piece, joinAll-at, joinAll-from, piece-from}
 use Rattle.lists.proofs.Fits.{All, all-append, Narrow, narrow-piece, narrow-joinAll, storable-narrow, narrow-storable}
 
 -- the owners at block b after it
@@ -74,14 +75,44 @@ lift-max a d e b n h =
     (λ p. rw (p, le-leb (max a d) b (omega tests)) refl)
     (λ p. rw (p, lt-leb (max a d) b (omega tests)) refl)
 
+-- ---- in the list's order
+
+-- a raise record by record, staging too: an extent that ends by 2^31 does not reach a staging record
+unfoldable pub raiseOn : ℕ → ℕ → List Refcount → List Refcount
+raiseOn a e [] = piece a e 2
+raiseOn a e (r ∷ l) = piece a (min (r .startblock) e) 2 ++ (raised a e r ++ raiseOn (max a (stop r)) e l)
+
+raised-beyond : (a e : ℕ) (r : Refcount) → a ≤ r .startblock → e ≤ r .startblock → 0 < r .blockcount → raised a e r ≡ r ∷ []
+unfolding raised
+raised-beyond a e r h k n =
+    rw (clamp-before r a h, clamp-before r e k, piece-empty (r .startblock) (r .startblock) (r .refcount) (omega arith), piece-empty (r .startblock) (r .startblock) (r .refcount + 1) (omega arith))
+    (piece-whole r n)
+
+beyond : (d a e : ℕ) (l : List Refcount) → e ≤ a → a ≤ d → From d l → raiseOn a e l ≡ l
+unfolding raiseOn
+beyond d a e [] h k g = piece-empty a e 2 h
+beyond d a e (r ∷ l) h k g =
+    rw (piece-empty a (min (r .startblock) e) 2 (omega arith), raised-beyond a e r (omega (arith, g .1)) (omega (arith, g .1)) (g .0 .0), beyond (stop r) (max a (stop r)) e l (omega arith) (omega (arith, g .1)) (g .2))
+    refl
+
 -- a is a block of the extent, or no record that is left starts before it
-raiseAll-at : (d a e : ℕ) (l : List Refcount) (b : ℕ) → a ≤ max e d → From d l → at (raiseAll a e l) b ≡ lift a e b (at l b)
-unfolding at raiseAll
+pub raiseAll-on : (d a e : ℕ) (l : List Refcount) → a ≤ max e d → e ≤ 2 ^ 31 → From d l → raiseAll a e l ≡ raiseOn a e l
+unfolding raiseAll raiseOn
+raiseAll-on d a e [] h t g = refl
+raiseAll-on d a e (r ∷ l) h t g =
+    split (staging r)
+    (λ f. let p = staging-start r f in
+    let q : min (r .startblock) e ≡ e = omega arith in
+    rw (f, q, raised-beyond a e r (omega (arith, g .1)) (omega arith) (g .0 .0), beyond (stop r) (max a (stop r)) e l (omega arith) (omega (arith, g .1)) (g .2)) refl)
+    (λ f. rw (f, raiseAll-on (stop r) (max a (stop r)) e l (omega arith) t (g .2)) refl)
+
+raiseAll-at : (d a e : ℕ) (l : List Refcount) (b : ℕ) → a ≤ max e d → From d l → at (raiseOn a e l) b ≡ lift a e b (at l b)
+unfolding at raiseOn
 raiseAll-at d a e [] b h g = let q : min (suc b + e) e ≡ e = omega arith in rw q at (gap-at a (suc b + e) e b (omega arith))
 raiseAll-at d a e (r ∷ l) b h g =
     let n : 0 < r .refcount = kind-some r (g .0 .1) in
-    let i : at (raiseAll (max a (stop r)) e l) b ≡ lift (max a (stop r)) e b (at l b) = raiseAll-at (stop r) (max a (stop r)) e l b (omega arith) (g .2) in
-    rw (at-append, at-append (raised a e r) (raiseAll (max a (stop r)) e l) b, i)
+    let i : at (raiseOn (max a (stop r)) e l) b ≡ lift (max a (stop r)) e b (at l b) = raiseAll-at (stop r) (max a (stop r)) e l b (omega arith) (g .2) in
+    rw (at-append, at-append (raised a e r) (raiseOn (max a (stop r)) e l) b, i)
     (split (ltb b (stop r))
     (λ f. let z : at l b ≡ 0 = at-left (stop r) l b (g .2) (omega tests) in
     rw (z, lift-out (max a (stop r)) e b 0 (omega tests))
@@ -115,37 +146,49 @@ gap-from d a z m h b f g =
     (λ e. rw e ((omega tests, shared (omega tests) (omega arith)), h, weaken (a + (z - a)) z m (omega tests) g))
     (λ e. rw e f)
 
-raiseAll-from : (d a e : ℕ) (l : List Refcount) → d ≤ a → a ≤ max e d → e ≤ 2 ^ 31 → From d l → From d (raiseAll a e l)
-unfolding raiseAll
+raiseAll-from : (d a e : ℕ) (l : List Refcount) → d ≤ a → a ≤ max e d → e ≤ 2 ^ 31 → From d l → From d (raiseOn a e l)
+unfolding raiseOn
 raiseAll-from d a e [] h k b g = rw append-nil at (gap-from d a e [] h b tt tt)
 raiseAll-from d a e (r ∷ l) h k b g =
-    let m : List Refcount = raised a e r ++ raiseAll (max a (stop r)) e l in
-    let f : From (r .startblock) m = raised-from (r .startblock) a e r (raiseAll (max a (stop r)) e l) (omega arith) b (omega arith) (g .0) (raiseAll-from (stop r) (max a (stop r)) e l (omega arith) (omega arith) b (g .2)) in
+    let m : List Refcount = raised a e r ++ raiseOn (max a (stop r)) e l in
+    let f : From (r .startblock) m = raised-from (r .startblock) a e r (raiseOn (max a (stop r)) e l) (omega arith) b (omega arith) (g .0) (raiseAll-from (stop r) (max a (stop r)) e l (omega arith) (omega arith) b (g .2)) in
     gap-from d a (min (r .startblock) e) m h (omega arith) (weaken d (r .startblock) m (g .1) f) (weaken (min (r .startblock) e) (r .startblock) m (omega arith) f)
 
 -- ---- the whole raise
 
 pub raise-from : (s e : ℕ) (l : List Refcount) → s ≤ e → e ≤ 2 ^ 31 → Accepted l → Accepted (raise s e l)
-raise-from s e l h b k = joinAll-from 0 (raiseAll s e l) (raiseAll-from 0 s e l (omega arith) (omega arith) b k)
+raise-from s e l h b k =
+    rw (raiseAll-on 0 s e l (omega arith) b k) (joinAll-from 0 (raiseOn s e l) (raiseAll-from 0 s e l (omega arith) (omega arith) b k))
 
 lift-high : (s e b : ℕ) → e ≤ b → lift s e b 0 ≡ 0
 unfolding lift
 lift-high s e b h = split (leb s b) (λ p. rw (p, le-ltb b e h) refl) (λ p. rw p refl)
 
-pub raise-at : (s e : ℕ) (l : List Refcount) (b : ℕ) → s ≤ e → Accepted l → at (raise s e l) b ≡ lift s e b (at l b)
-raise-at s e l b h k = joinAll-at (raiseAll s e l) b ∙ raiseAll-at 0 s e l b (omega arith) k
+pub raise-at : (s e : ℕ) (l : List Refcount) (b : ℕ) → s ≤ e → e ≤ 2 ^ 31 → Accepted l → at (raise s e l) b ≡ lift s e b (at l b)
+raise-at s e l b h t k =
+    rw (raiseAll-on 0 s e l (omega arith) t k)
+    (joinAll-at 0 (raiseOn s e l) b (raiseAll-from 0 s e l (omega arith) (omega arith) t k) ∙ raiseAll-at 0 s e l b (omega arith) k)
 
 pub raise-owners : (s e : ℕ) (l : List Refcount) (b : ℕ) → s ≤ e → e ≤ 2 ^ 31 → Accepted l → owners (raise s e l) b ≡ lift s e b (owners l b)
 raise-owners s e l b h t k =
     split (ltb b (2 ^ 31))
-    (λ f. let p : b < 2 ^ 31 = omega tests in rw (owners-at (raise s e l) b p, owners-at l b p) (raise-at s e l b h k))
+    (λ f. let p : b < 2 ^ 31 = omega tests in rw (owners-at (raise s e l) b p, owners-at l b p) (raise-at s e l b h t k))
     (λ f. let p : 2 ^ 31 ≤ b = omega tests in rw (owners-high 0 (raise s e l) b (raise-from s e l h t k) p, owners-high 0 l b k p, lift-high s e b (omega arith)) refl)
 
 -- ---- 4 bytes hold the owners
 
+-- a staging record is not full, and has one owner
+abbrev pub fullAt : ℕ → ℕ → Refcount → Bool
+fullAt s e r = leb (2 ^ 32 - 1) (r .refcount) && (ltb s (stop r) && ltb (r .startblock) e)
+
+pub full-at : (s e : ℕ) (r : Refcount) → Good r → full s e r ≡ fullAt s e r
+unfolding full refcount.staging
+full-at s e r (n, shared p q) = rw (lt-leb (2 ^ 31) (r .startblock) (omega arith)) refl
+full-at s e r (n, staged p q t) = rw (lt-leb (2 ^ 32 - 1) (r .refcount) (omega arith)) refl
+
 -- by whether the extent meets the record
-narrow-raised : (s e d a : ℕ) (r : Refcount) → s ≤ e → s ≤ a → a ≤ max s d → d ≤ r .startblock → full s e r ≡ false → Narrow r → All Narrow (raised a e r)
-unfolding raised clamp full piece
+narrow-raised : (s e d a : ℕ) (r : Refcount) → s ≤ e → s ≤ a → a ≤ max s d → d ≤ r .startblock → fullAt s e r ≡ false → Narrow r → All Narrow (raised a e r)
+unfolding raised clamp piece
 narrow-raised s e d a r h k p q f n =
     let m : List Refcount = piece (clamp r a) (clamp r e) (r .refcount + 1) in
     let b : List Refcount = piece (clamp r e) (stop r) (r .refcount) in
@@ -158,21 +201,22 @@ narrow-raised s e d a r h k p q f n =
     (λ g. narrow-piece (clamp r a) (clamp r e) (r .refcount + 1) (omega tests)))
     (narrow-piece (clamp r e) (stop r) (r .refcount) n))
 
-narrow-raiseAll : (s e d a : ℕ) (l : List Refcount) → s ≤ e → s ≤ a → a ≤ max s d → From d l → ownersFit s e l ≡ true → All Narrow l → All Narrow (raiseAll a e l)
-unfolding raiseAll ownersFit
+narrow-raiseAll : (s e d a : ℕ) (l : List Refcount) → s ≤ e → s ≤ a → a ≤ max s d → From d l → ownersFit s e l ≡ true → All Narrow l → All Narrow (raiseOn a e l)
+unfolding raiseOn ownersFit
 narrow-raiseAll s e d a [] h k p g o n = narrow-piece a e 2 (omega arith)
 narrow-raiseAll s e d a (r ∷ l) h k p g o n =
     let u : not (full s e r) ≡ true = search conj in
     let v : ownersFit s e l ≡ true = search conj in
-    let m : List Refcount = raiseAll (max a (stop r)) e l in
+    let m : List Refcount = raiseOn (max a (stop r)) e l in
     all-append Narrow (piece a (min (r .startblock) e) 2) (raised a e r ++ m) (narrow-piece a (min (r .startblock) e) 2 (omega arith))
-    (all-append Narrow (raised a e r) m (narrow-raised s e d a r h k p (g .1) (not-false (full s e r) u) (n .0))
+    (all-append Narrow (raised a e r) m (narrow-raised s e d a r h k p (g .1) (sym (full-at s e r (g .0)) ∙ not-false (full s e r) u) (n .0))
     (narrow-raiseAll s e (stop r) (max a (stop r)) l h (omega arith) (omega arith) (g .2) v (n .1)))
 
 pub storable-raise : (s e : ℕ) (l : List Refcount) → s ≤ e → e ≤ 2 ^ 31 → Accepted l → ownersFit s e l ≡ true → AllStorable refcounts l → AllStorable refcounts (raise s e l)
 storable-raise s e l h b g o k =
     narrow-storable 0 (raise s e l) (raise-from s e l h b g)
-    (narrow-joinAll (raiseAll s e l) (narrow-raiseAll s e 0 s l h (omega arith) (omega arith) g o (storable-narrow l k)))
+    (rw (raiseAll-on 0 s e l (omega arith) b g)
+    (narrow-joinAll (raiseOn s e l) (narrow-raiseAll s e 0 s l h (omega arith) (omega arith) g o (storable-narrow l k))))
 
 -- ---- what a raise does
 

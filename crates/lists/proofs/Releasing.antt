@@ -22,7 +22,7 @@ use Rattle.lists.specs.declared.Released.the-variants as released
 use Rattle.lists.specs.Extent.{goodExtent}
 use Rattle.lists.specs.Release.{clear, release, unshared}
 use Rattle.lists.specs.Edits.{Freed, fits, releaseOutcome, written}
-use Rattle.lists.specs.Answer.{editNumber, releasedOutcome, lengthsOf}
+use Rattle.lists.specs.Answer.{editNumber, releasedOutcome, lengthsOf, ReleaseIs}
 use Rattle.lists.specs.Steps.{freed, measureOutcome, Writable, passOutcome}
 use Rattle.lists.proofs.Cases.{split, tests, conj}
 
@@ -76,28 +76,22 @@ module _ (b : List ℕ) (start count : ℕ) where
       (λ q. rw (p, q) refl))
       (λ p. rw p refl)
 
-  -- the answer and both buffers are those of the outcome o
-  abbrev TellsOf : Outcome Freed → Released → (new free new′ free′ : List ℕ) → Type 0
-  TellsOf o r new free new′ free′ =
-      (releasedOutcome r ≡ lengthsOf o)
-      × ((new′ ≡ written refcounts new (mapOutcome (λ f. f .counts) o)) × (free′ ≡ written freeExtents free (mapOutcome (λ f. f .free) o)))
-
   module _ (new free : List ℕ) where
     abbrev outcome : Outcome Freed
     outcome = releaseOutcome b start count (length new) (length free)
 
     abbrev pub Tells : Released → (new′ free′ : List ℕ) → Type 0
-    Tells r new′ free′ = TellsOf outcome r new free new′ free′
+    Tells r new′ free′ = ReleaseIs outcome r new new′ free free′
 
-    by-fitted : (r : Released) (new′ free′ : List ℕ) → TellsOf (fitted (measureOutcome b start count) (length new) (length free)) r new free new′ free′ → Tells r new′ free′
+    by-fitted : (r : Released) (new′ free′ : List ℕ) → ReleaseIs (fitted (measureOutcome b start count) (length new) (length free)) r new new′ free free′ → Tells r new′ free′
     by-fitted r new′ free′ h = rw (release-fitted (length new) (length free)) h
 
     pub tells-refused : (q : EditRefusal) → releasedOutcome (released.Refused q) ≡ lengthsOf (measureOutcome b start count) → Tells (released.Refused q) new free
     unfolding written
     tells-refused q e = by-fitted (released.Refused q) new free (go (measureOutcome b start count) e)
       where
-        go : (o : Outcome Freed) → releasedOutcome (released.Refused q) ≡ lengthsOf o → TellsOf (fitted o (length new) (length free)) (released.Refused q) new free new free
-        go (refused n v) e = (e, (refl, refl))
+        go : (o : Outcome Freed) → releasedOutcome (released.Refused q) ≡ lengthsOf o → ReleaseIs (fitted o (length new) (length free)) (released.Refused q) new new free free
+        go (refused n v) e = record { said = e; counts = refl; extents = refl }
         go (done f) e = absurd (let y : _≡_ {A = ℕ} 0 1 = cc in omega arith)
 
     module _ (m : Lengths) (e : releasedOutcome (released.Done m) ≡ lengthsOf (measureOutcome b start count)) where
@@ -139,7 +133,7 @@ module _ (b : List ℕ) (start count : ℕ) where
       tells-room h =
           let t : (leb (length (bytesOf refcounts (release start (start + count) l))) (length new) && leb (length (bytesOf freeExtents (unshared l start count))) (length free)) ≡ false =
           rw (← lengths .0, ← lengths .1) h in
-          by-fitted (released.Refused why.Room) new free (rw (measured, t) (refl, (refl, refl)))
+          by-fitted (released.Refused why.Room) new free (rw (measured, t) (record { said = refl; counts = refl; extents = refl }))
 
       pub tells-short : length new < m .counts → Tells (released.Refused why.Room) new free
       tells-short h = tells-room (rw (lt-leb (m .counts) (length new) h) refl)
@@ -154,4 +148,4 @@ module _ (b : List ℕ) (start count : ℕ) where
       unfolding written
       tells-done h k new′ free′ p q =
           by-fitted (released.Done m) new′ free′
-          (rw (measured, le-leb _ (length new) (rw (lengths .0) at h), le-leb _ (length free) (rw (lengths .1) at k)) (rw measured at e, (p, q)))
+          (rw (measured, le-leb _ (length new) (rw (lengths .0) at h), le-leb _ (length free) (rw (lengths .1) at k)) (record { said = rw measured at e; counts = p; extents = q }))

@@ -10,19 +10,23 @@ use lib.Dec.{ltb, leb}
 use borrow.Author.Tests.{lt-ltb, le-ltb, le-leb, lt-leb}
 use Rattle.codec.specs.Bytes.{IsBytes}
 use Rattle.codec.specs.Question.{done, ask}
-use Rattle.codec.specs.Records.{recordsOf, AllStorable, refcounts, freeExtents}
+use Rattle.codec.specs.Bytes as bytes
+use Rattle.codec.specs.Accepted as accepted
+use Rattle.codec.specs.Records as records
+use Rattle.codec.specs.Records.{recordsOf, bytesOf, AllStorable, refcounts, freeExtents}
 use Rattle.codec.specs.Refcounts as refcount
 use Rattle.codec.specs.Refcounts.{staging, block}
 use Rattle.codec.specs.declared.refcount.Refcount.{Refcount}
 use Rattle.codec.specs.declared.free_extent.FreeExtent.{FreeExtent}
 use Rattle.codec.proofs.Meaning.{done-means}
 use Rattle.codec.proofs.RecordKinds.{refcounts-lawful}
-use Rattle.codec.proofs.ListBytes.{storable-recordsOf}
+use Rattle.codec.proofs.ListBytes.{storable-recordsOf, isBytes-bytesOf}
+use Rattle.lists.specs.Extent as extent
 use Rattle.lists.specs.Extent.{over, within, goodExtent}
-use Rattle.lists.specs.Release.{clear, unshared, stop, lowerAll, continues, joined, joinFrom, joinAll, release}
+use Rattle.lists.specs.Release.{owners, clear, unshared, stop, piece, middle, clamp, lowered, lowerAll, alike, continues, joined, joinFrom, joinAll, release}
 use Rattle.lists.specs.Raise.{raiseAll, raise, ownersFit, raiseOutcome}
 use Rattle.lists.specs.Edits.{countQuestions, fits, Freed, releaseOutcome}
-use Rattle.lists.specs.Settled.{PartedFrom, Parted, staged, Settled}
+use Rattle.lists.specs.Settled.{PartedFrom, Parted, staged, Settled, EveryRelease, EveryRaise}
 use Rattle.lists.proofs.Cases.{split, tests, conj, over-facts, facts-over, within-in, within-right, within-not}
 use Rattle.lists.proofs.Counts as C
 use Rattle.lists.proofs.Counts.{OfKind, From, at, lower, release-at, release-from}
@@ -40,7 +44,7 @@ parted-from q r (s ∷ l) h =
     (λ e. rw e (h, parted-from r s l e))
   where
     joined-starts : (q r s : Refcount) → continues q r ≡ false → continues q (joined r s) ≡ false
-    joined-starts q r s h = unfold continues in h
+    joined-starts q r s h = unfold continues alike staging in h
 
 -- the same of the first
 parted-first : (r : Refcount) (l : List Refcount) → Parted (joinFrom r l)
@@ -121,8 +125,8 @@ module _ (start count : ℕ) (l : List Refcount) (end : start + count ≤ 2 ^ 31
       record {
         joined = parted-release start (start + count) l;
         staging =
-            staged-same l (release start (start + count) l) facts (release-from start (start + count) l (omega arith) facts)
-            (λ b h. release-at start (start + count) l b (omega arith) facts ∙ lower-high start (start + count) b (at l b) (omega arith));
+            staged-same l (release start (start + count) l) facts (release-from start (start + count) l (omega arith) end facts)
+            (λ b h. release-at start (start + count) l b (omega arith) end facts ∙ lower-high start (start + count) b (at l b) (omega arith));
       }
 
   pub raise-settles : Settled l (raise start (start + count) l)
@@ -131,13 +135,12 @@ module _ (start count : ℕ) (l : List Refcount) (end : start + count ≤ 2 ^ 31
         joined = parted-raise start (start + count) l;
         staging =
             staged-same l (raise start (start + count) l) facts (raise-from start (start + count) l (omega arith) end facts)
-            (λ b h. raise-at start (start + count) l b (omega arith) facts ∙ lift-high start (start + count) b (at l b) (omega arith));
+            (λ b h. raise-at start (start + count) l b (omega arith) end facts ∙ lift-high start (start + count) b (at l b) (omega arith));
       }
 
 -- ---- over lent bytes
 
-pub release-settled : (c : List ℕ) (start count room freeRoom : ℕ) (r : Freed) → IsBytes c → releaseOutcome c start count room freeRoom ≡ done r
-    → Settled (recordsOf refcounts c) (r .counts)
+pub release-settled : EveryRelease
 unfolding releaseOutcome goodExtent
 release-settled c start count room freeRoom r h e =
     let l : List Refcount = recordsOf refcounts c in
@@ -156,8 +159,7 @@ release-settled c start count room freeRoom r h e =
     subst (λ (r : Freed). Settled l (r .counts)) (k .1)
     (release-settles start count l (omega tests) (q .1 .0) (storable-recordsOf refcounts refcounts-lawful c h))
 
-pub raise-settled : (c : List ℕ) (start count : ℕ) (m : List Refcount) → IsBytes c → raiseOutcome c start count ≡ done m
-    → Settled (recordsOf refcounts c) m
+pub raise-settled : EveryRaise
 unfolding raiseOutcome goodExtent
 raise-settled c start count m h e =
     let l : List Refcount = recordsOf refcounts c in
@@ -169,3 +171,24 @@ raise-settled c start count m h e =
     let u : leb (start + count) (2 ^ 31) ≡ true = search conj in
     subst (Settled l) (k .1)
     (raise-settles start count l (omega tests) (q .1 .0) (storable-recordsOf refcounts refcounts-lawful c h))
+
+-- ---- an instance
+
+-- start / count / owners
+abbrev countOf : ℕ → ℕ → ℕ → Refcount
+countOf s c n = record { startblock = s; blockcount = c; refcount = n }
+
+-- 0/4/3 and 4/4/2, and staging over blocks 20 and 21 in two records
+abbrev before : List Refcount
+before = countOf 0 4 3 ∷ countOf 4 4 2 ∷ countOf (2 ^ 31 + 20) 1 1 ∷ countOf (2 ^ 31 + 21) 1 1 ∷ []
+
+-- 0/4 let go: 0/8/2, and the staging joined
+abbrev after : List Refcount
+after = countOf 0 8 2 ∷ countOf (2 ^ 31 + 20) 2 1 ∷ []
+
+row : releaseOutcome (bytesOf refcounts before) 0 4 24 0 ≡ done (record { counts = after; free = [] })
+unfolding releaseOutcome goodExtent bytes.beOf bytes.beBytes records.fieldsOf records.fieldBytes records.firstRecords records.recordsOf records.bytesOf accepted.whole accepted.inOrder refcount.staging refcount.good refcount.follows over within extent.grow extent.runs owners clear piece middle clamp lowered lowerAll alike continues joinFrom joinAll
+row = refl
+
+pub row-settled : Settled (recordsOf refcounts (bytesOf refcounts before)) after
+row-settled = release-settled (bytesOf refcounts before) 0 4 24 0 (record { counts = after; free = [] }) (isBytes-bytesOf refcounts refcounts-lawful before) row

@@ -30,9 +30,13 @@ module _ (r : Refcount) (s e : ℕ) where
   unfolding full
   full-not h = rw (lt-leb (2 ^ 32 - 1) (r .refcount) h) refl
 
-  pub full-by : 2 ^ 32 - 1 ≤ r .refcount → (ltb s (stop r) && ltb (r .startblock) e) ≡ full s e r
-  unfolding full
-  full-by h = rw (le-leb (2 ^ 32 - 1) (r .refcount) h) refl
+  pub full-staging : 2 ^ 31 ≤ r .startblock → false ≡ full s e r
+  unfolding full staging
+  full-staging h = rw (le-leb (2 ^ 31) (r .startblock) h) (sym (and-false (leb (2 ^ 32 - 1) (r .refcount))))
+
+  pub full-by : 2 ^ 32 - 1 ≤ r .refcount → r .startblock < 2 ^ 31 → (ltb s (stop r) && ltb (r .startblock) e) ≡ full s e r
+  unfolding full staging
+  full-by h k = rw (le-leb (2 ^ 32 - 1) (r .refcount) h, lt-leb (2 ^ 31) (r .startblock) k) refl
 
 pub clear-met : (c t : Bool) → t ≡ true → false ≡ (c && not t)
 clear-met c t h = rw h (sym (and-false c))

@@ -181,7 +181,7 @@ module _ (up write list : Bool) (all : List Refcount) (s e : ℕ) (new₀ free�
 
     unfilled : full s e r ≡ false
     unfolding full
-    unfilled = rw unmet (and-false (leb (2 ^ 32 - 1) (r .refcount)))
+    unfilled = rw unmet (ap (λ (t : Bool). leb (2 ^ 32 - 1) (r .refcount) && t) (and-false (not (staging r))) ∙ and-false (leb (2 ^ 32 - 1) (r .refcount)))
 
     pub roomy : write ≡ true → 0 < length (C (pending (w .joiner))) → w .joiner .at + length (C (pending (w .joiner))) ≤ length new
     roomy = pending-room write (w .joiner) (length new) room

@@ -44,8 +44,15 @@ abbrev pub Apart : ℕ → List FreeExtent → Type 0
 Apart a [] = Unit {0}
 Apart a (f ∷ fs) = (a ≤ f .startblock) × (0 < f .blockcount) × Apart (suc (f .startblock + f .blockcount)) fs
 
--- the extents lie over exactly the blocks that pass the test, among n blocks from b; ascending, and each as long as it can be, since the block
--- behind it is in none
+-- each lies within the n blocks from b
+abbrev pub Inside : ℕ → ℕ → List FreeExtent → Type 0
+Inside b n [] = Unit {0}
+Inside b n (f ∷ fs) = (b ≤ f .startblock) × (f .startblock + f .blockcount ≤ b + n) × Inside b n fs
+
+-- the longest runs of the blocks that pass the test, among n blocks from b, ascending
 pub record Longest (p : ℕ → Bool) (b n : ℕ) (fs : List FreeExtent) : Type 0 where
+  pub inside : Inside b n fs
+  -- they lie over exactly the blocks that pass
   pub blocks : (k : ℕ) → lies fs k ≡ (over b n k && p k)
+  -- no two touch, and they ascend
   pub apart : Apart b fs

@@ -2,38 +2,38 @@
 -- Assumes nothing.
 use Prim.Native.Nat.{ℕ, _+_, _-_, _^_, _≤_, min, max}
 use mathlib.Core.Path.{_≡_}
-use mathlib.Core.Bool.{Bool, true, not, _&&_}
+use mathlib.Core.Bool.{Bool, true, not, cond, _&&_}
 use mathlib.Core.List.{List, [], _∷_, _++_}
 use lib.Dec.{ltb, leb}
 use lib.ListN.{length}
 use Rattle.codec.specs.Question.{Outcome, done, ask, answer}
 use Rattle.codec.specs.Records.{recordsOf, bytesOf, refcounts}
-use Rattle.codec.specs.Refcounts.{accepted}
+use Rattle.codec.specs.Refcounts.{staging, accepted}
 use Rattle.codec.specs.declared.refcount.Refcount.{Refcount}
 use Rattle.lists.specs.Extent.{goodExtent}
 use Rattle.lists.specs.Release.{clear, stop, piece, clamp, joinAll}
 use Rattle.lists.specs.Edits.{countQuestions}
 
--- As for a release, a record is on the line of starts as stored, so the blocks of an extent below 2^31 are those of shared records alone.
-
--- r with one owner more from s up to e: what lies before that, that itself, and what lies after it
+-- the shared record r with one owner more from s up to e: what lies before that, that itself, and what lies after it
 unfoldable pub raised : ℕ → ℕ → Refcount → List Refcount
 raised s e r =
     piece (r .startblock) (clamp r s) (r .refcount)
     ++ (piece (clamp r s) (clamp r e) (r .refcount + 1) ++ piece (clamp r e) (stop r) (r .refcount))
 
--- one owner more from a up to e: the blocks that no record lies over have one, and get a record of 2
+-- one owner more from a up to e: the blocks that no shared record lies over have one, and get a record of 2. Staging, which stands behind all
+-- shared records, stays.
 unfoldable pub raiseAll : ℕ → ℕ → List Refcount → List Refcount
 raiseAll a e [] = piece a e 2
-raiseAll a e (r ∷ l) = piece a (min (r .startblock) e) 2 ++ (raised a e r ++ raiseAll (max a (stop r)) e l)
+raiseAll a e (r ∷ l) =
+    cond (staging r) (piece a e 2 ++ (r ∷ l)) (piece a (min (r .startblock) e) 2 ++ (raised a e r ++ raiseAll (max a (stop r)) e l))
 
 -- the counts after the blocks from s up to e are taken once more
 abbrev pub raise : ℕ → ℕ → List Refcount → List Refcount
 raise s e l = joinAll (raiseAll s e l)
 
--- does r meet the blocks from s up to e with 4,294,967,295 owners, the most that its bytes can hold?
+-- does the shared record r meet the blocks from s up to e with 4,294,967,295 owners, the most that its bytes can hold?
 unfoldable pub full : ℕ → ℕ → Refcount → Bool
-full s e r = leb (2 ^ 32 - 1) (r .refcount) && (ltb s (stop r) && ltb (r .startblock) e)
+full s e r = leb (2 ^ 32 - 1) (r .refcount) && (not (staging r) && (ltb s (stop r) && ltb (r .startblock) e))
 
 -- 28: has no shared record that meets the blocks from s up to e as many owners already?
 unfoldable pub ownersFit : ℕ → ℕ → List Refcount → Bool

@@ -19,14 +19,12 @@ unfoldable pub clear : ℕ → ℕ → List Refcount → Bool
 clear s e [] = true
 clear s e (r ∷ l) = not (staging r && (ltb (block r) e && ltb s (end r))) && clear s e l
 
--- Below a record is on the line of starts as stored: the shared records lie below 2^31, the staging ones from there on, so the blocks of an
--- extent below 2^31 are those of shared records alone.
+-- ---- one shared record: its start is its block
 
--- where a record stops on that line
 abbrev pub stop : Refcount → ℕ
 stop r = r .startblock + r .blockcount
 
--- the places from a up to z with n owners; none where there is no place
+-- the blocks from a up to z with n owners; none where there is no block
 unfoldable pub piece : ℕ → ℕ → ℕ → List Refcount
 piece a z n = cond (ltb a z) (record { startblock = a; blockcount = z - a; refcount = n } ∷ []) []
 
@@ -34,7 +32,7 @@ piece a z n = cond (ltb a z) (record { startblock = a; blockcount = z - a; refco
 unfoldable pub middle : ℕ → ℕ → ℕ → List Refcount
 middle a z n = cond (leb n 2) [] (piece a z (n - 1))
 
--- the place s, or the nearer end of the record r
+-- the block s, or the nearer end of the record r
 unfoldable pub clamp : Refcount → ℕ → ℕ
 clamp r s = max (r .startblock) (min s (stop r))
 
@@ -44,13 +42,20 @@ lowered s e r =
     piece (r .startblock) (clamp r s) (r .refcount)
     ++ (middle (clamp r s) (clamp r e) (r .refcount) ++ piece (clamp r e) (stop r) (r .refcount))
 
+-- ---- the whole list
+
+-- owners drop by one from s up to e; staging stays
 unfoldable pub lowerAll : ℕ → ℕ → List Refcount → List Refcount
 lowerAll s e [] = []
-lowerAll s e (r ∷ l) = lowered s e r ++ lowerAll s e l
+lowerAll s e (r ∷ l) = cond (staging r) (r ∷ []) (lowered s e r) ++ lowerAll s e l
 
--- does s begin where r stops, with as many owners? (A shared and a staging record never have as many.)
+-- are both shared, or both staging?
+unfoldable pub alike : Refcount → Refcount → Bool
+alike r s = cond (staging r) (staging s) (not (staging s))
+
+-- does s begin at the block where r ends, being of the same kind and with as many owners?
 unfoldable pub continues : Refcount → Refcount → Bool
-continues r s = eqb (stop r) (s .startblock) && eqb (r .refcount) (s .refcount)
+continues r s = alike r s && (eqb (end r) (block s) && eqb (r .refcount) (s .refcount))
 
 abbrev pub joined : Refcount → Refcount → Refcount
 joined r s = record { startblock = r .startblock; blockcount = r .blockcount + s .blockcount; refcount = r .refcount }

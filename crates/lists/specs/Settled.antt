@@ -1,14 +1,19 @@
--- What a release or a raise leaves besides the owners: every join is made, and staging stays where it was.
--- proofs/Settling.antt shows it of both edits, and proofs/OnlyCounts.antt that with the owners over each block it leaves no other list.
+-- What a release or a raise leaves besides the owners: every join is made, and staging stays where it was. proofs/Settling.antt proves the two
+-- statements at the end, with an instance, and proofs/OnlyCounts.antt shows that with the owners over each block they leave no other list.
 -- Assumes nothing.
 use Prim.Native.Nat.{ℕ}
 use mathlib.Core.Path.{_≡_}
 use mathlib.Core.Bool.{Bool, false, _&&_, _||_}
 use mathlib.Core.List.{List, [], _∷_}
+use Rattle.codec.specs.Bytes.{IsBytes}
+use Rattle.codec.specs.Question.{done}
+use Rattle.codec.specs.Records.{recordsOf, refcounts}
 use Rattle.codec.specs.Refcounts.{staging, block}
 use Rattle.codec.specs.declared.refcount.Refcount.{Refcount}
 use Rattle.lists.specs.Extent.{over}
 use Rattle.lists.specs.Release.{continues}
+use Rattle.lists.specs.Edits.{Freed, releaseOutcome}
+use Rattle.lists.specs.Raise.{raiseOutcome}
 
 -- no record continues the one before it; r stands before the first
 abbrev pub PartedFrom : Refcount → List Refcount → Type 0
@@ -30,3 +35,12 @@ pub record Settled (l m : List Refcount) : Type 0 where
   pub joined : Parted m
   -- staging lies over the same blocks
   pub staging : (b : ℕ) → staged m b ≡ staged l b
+
+-- "all adjacent equals in the whole list join": every release and every raise that is done leaves settled counts
+abbrev pub EveryRelease : Type 0
+EveryRelease =
+    (c : List ℕ) (start count room freeRoom : ℕ) (f : Freed) → IsBytes c → releaseOutcome c start count room freeRoom ≡ done f
+    → Settled (recordsOf refcounts c) (f .counts)
+
+abbrev pub EveryRaise : Type 0
+EveryRaise = (c : List ℕ) (start count : ℕ) (m : List Refcount) → IsBytes c → raiseOutcome c start count ≡ done m → Settled (recordsOf refcounts c) m

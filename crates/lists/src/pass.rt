@@ -94,11 +94,14 @@ fn stays_clear(clear: bool, r: Refcount, s: u64, e: u64) -> bool
     clear
 }
 
-// Does the record meet the blocks from `s` up to `e` with as many owners as it can tell?
+// Does the record, a shared one, meet the blocks from `s` up to `e` with as many owners as it can tell?
 fn full(r: Refcount, s: u64, e: u64) -> bool
     ensures { λ t. ⌜ t ≡ full s e r ⌝ }
 {
     if r.refcount < 0xFFFF_FFFF {
+        return false;
+    }
+    if 0x8000_0000 <= r.startblock {
         return false;
     }
     let start = r.startblock as u64;

@@ -10,12 +10,10 @@ ghost use mathlib.Core.Bool.{Bool, true, false};
 ghost use Prim.Native.Nat.{ℕ, _+_};
 ghost use lib.ListN.{length};
 ghost use Rattle.codec.specs.Bytes.{withBytes};
-ghost use Rattle.codec.specs.Question.{mapOutcome};
 ghost use Rattle.codec.specs.Records.{Kind, recordsOf, bytesOf, refcounts, freeExtents};
 ghost use Rattle.lists.specs.Extent.{goodExtent};
 ghost use Rattle.lists.specs.Release.{release, unshared};
-ghost use Rattle.lists.specs.Edits.{Freed, releaseOutcome, written};
-ghost use Rattle.lists.specs.Answer.{releasedOutcome, lengthsOf};
+ghost use Rattle.lists.specs.Answer.{releasedOutcome, lengthsOf, Releases};
 ghost use Rattle.lists.specs.Steps.{measureOutcome, Writable};
 
 // 22 by start and count.
@@ -82,9 +80,7 @@ pub fn release(
     new: &mut [u8],
     free: &mut [u8],
 ) -> Released
-    ensures said { λ r. ⌜ releasedOutcome r ≡ lengthsOf (releaseOutcome (now (counts .entry)) startblock blockcount (length (now (new .entry))) (length (now (free .entry)))) ⌝ }
-    ensures counts { λ _. ⌜ now (new .exit) ≡ written refcounts (now (new .entry)) (mapOutcome (λ f. f .counts) (releaseOutcome (now (counts .entry)) startblock blockcount (length (now (new .entry))) (length (now (free .entry))))) ⌝ }
-    ensures extents { λ _. ⌜ now (free .exit) ≡ written freeExtents (now (free .entry)) (mapOutcome (λ f. f .free) (releaseOutcome (now (counts .entry)) startblock blockcount (length (now (new .entry))) (length (now (free .entry))))) ⌝ }
+    ensures { λ r. ⌜ Releases (now (counts .entry)) startblock blockcount r (now (new .entry)) (now (new .exit)) (now (free .entry)) (now (free .exit)) ⌝ }
 {
     let measured = measure(counts, startblock, blockcount);
     match measured {

@@ -25,8 +25,7 @@ ghost use Rattle.codec.specs.Records.{recordsOf, rmaps};
 ghost use Rattle.codec.specs.Rmaps.{end, exempt, good, accepted};
 ghost use Rattle.lists.specs.declared.rmap_plans.Edit.the-variants.{Insert, InsertShared, Remove};
 ghost use Rattle.lists.specs.RmapEdits.{joined, later};
-ghost use Rattle.lists.specs.Edits.{written, insertOutcome, insertSharedOutcome, removeOutcome};
-ghost use Rattle.lists.specs.Answer.{editedOutcome, lengthOf};
+ghost use Rattle.lists.specs.Answer.{EditIs, Inserts, InsertsShared, Removes};
 ghost use Rattle.lists.specs.RmapPlans.{editOutcome, Finds, TakeGood, joinAt, previous, partsOf, partCount, PartsGood, plannedOutcome, PlannedGood, PlanIs};
 
 // The bytes of a record.
@@ -274,8 +273,7 @@ pub fn plan(old: &[u8], e: Edit, x: Rmap) -> Planned
 
 // An edit planned, 26 asked, and the new list written; a refusal writes nothing.
 fn edit(old: &[u8], e: Edit, x: Rmap, new: &mut [u8]) -> Edited
-    ensures said { λ r. ⌜ editedOutcome r ≡ lengthOf rmaps (editOutcome e (now (old .entry)) x (length (now (new .entry)))) ⌝ }
-    ensures wrote { λ _. ⌜ now (new .exit) ≡ written rmaps (now (new .entry)) (editOutcome e (now (old .entry)) x (length (now (new .entry)))) ⌝ }
+    ensures { λ r. ⌜ EditIs (editOutcome e (now (old .entry)) x (length (now (new .entry)))) r (now (new .entry)) (now (new .exit)) ⌝ }
 {
     let planned = plan(old, e, x);
     match planned {
@@ -293,8 +291,7 @@ fn edit(old: &[u8], e: Edit, x: Rmap, new: &mut [u8]) -> Edited
 
 // Takes an extent of which no block is held: questions 19, 20, 22, 23 and 26, then the new list, of which the bytes are said.
 pub fn insert(old: &[u8], x: Rmap, new: &mut [u8]) -> Edited
-    ensures said { λ r. ⌜ editedOutcome r ≡ lengthOf rmaps (insertOutcome (now (old .entry)) x (length (now (new .entry)))) ⌝ }
-    ensures wrote { λ _. ⌜ now (new .exit) ≡ written rmaps (now (new .entry)) (insertOutcome (now (old .entry)) x (length (now (new .entry)))) ⌝ }
+    ensures { λ r. ⌜ Inserts (now (old .entry)) x r (now (new .entry)) (now (new .exit)) ⌝ }
 {
     edit(old, Edit::Insert, x, new)
 }
@@ -302,16 +299,14 @@ pub fn insert(old: &[u8], x: Rmap, new: &mut [u8]) -> Edited
 // The same for an extent whose blocks others may hold; 23 asks that no record clashes. The counts are left alone, so they may no longer agree
 // with the new list: `take_held` of crate groups is the call for held blocks, and histories take by that.
 pub fn insert_shared(old: &[u8], x: Rmap, new: &mut [u8]) -> Edited
-    ensures said { λ r. ⌜ editedOutcome r ≡ lengthOf rmaps (insertSharedOutcome (now (old .entry)) x (length (now (new .entry)))) ⌝ }
-    ensures wrote { λ _. ⌜ now (new .exit) ≡ written rmaps (now (new .entry)) (insertSharedOutcome (now (old .entry)) x (length (now (new .entry)))) ⌝ }
+    ensures { λ r. ⌜ InsertsShared (now (old .entry)) x r (now (new .entry)) (now (new .exit)) ⌝ }
 {
     edit(old, Edit::InsertShared, x, new)
 }
 
 // Gives an extent up: questions 19, 20, 22, 24 and 26, then the new list, of which the bytes are said.
 pub fn remove(old: &[u8], x: Rmap, new: &mut [u8]) -> Edited
-    ensures said { λ r. ⌜ editedOutcome r ≡ lengthOf rmaps (removeOutcome (now (old .entry)) x (length (now (new .entry)))) ⌝ }
-    ensures wrote { λ _. ⌜ now (new .exit) ≡ written rmaps (now (new .entry)) (removeOutcome (now (old .entry)) x (length (now (new .entry)))) ⌝ }
+    ensures { λ r. ⌜ Removes (now (old .entry)) x r (now (new .entry)) (now (new .exit)) ⌝ }
 {
     edit(old, Edit::Remove, x, new)
 }

@@ -20,7 +20,7 @@ same-length c = search needs
 returns : tie.Need-returns
 returns c =
     let e = c .before .before .before .before .insert-shared .ensures in
-    rw (← c .before .before .before .before .before .before .extent .ensures) (rw (← e .0) (c .before .edited-answer .ensures), e .1)
+    rw (← c .before .before .before .before .before .before .extent .ensures) (record { answer = rw (← e .said) (c .before .edited-answer .ensures); wrote = e .wrote })
 
 pub kf-insert-shared-spec : {M : Type 1} → statement M
 kf-insert-shared-spec =

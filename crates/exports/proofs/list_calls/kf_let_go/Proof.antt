@@ -26,7 +26,7 @@ same-length-3 c = search needs
 returns : tie.Need-returns
 returns c =
     let e = c .before .before .before .before .before .before .before .before .let-go .ensures in
-    rw (← c .before .before .before .before .before .before .before .before .before .before .before .before .extent .ensures) (rw (← e .0) (c .before .let-gone-answer .ensures), e .1)
+    rw (← c .before .before .before .before .before .before .before .before .before .before .before .before .extent .ensures) (record { answer = rw (← e .said) (c .before .let-gone-answer .ensures); map = e .map; counts = e .counts; extents = e .extents })
 
 pub kf-let-go-spec : {M : Type 1} → statement M
 kf-let-go-spec = tie.close (tie.spec extent-requires let-go-requires let-gone-answer-requires same-length same-length-2 same-length-3 returns)

@@ -20,7 +20,7 @@ same-length-2 c = search needs
 returns : tie.Need-returns
 returns c =
     let e = c .before .before .before .before .before .before .release .ensures in
-    (rw (← e .0) (c .before .released-answer .ensures), e .1)
+    record { answer = rw (← e .said) (c .before .released-answer .ensures); counts = e .counts; extents = e .extents }
 
 pub kf-release-spec : {M : Type 1} → statement M
 kf-release-spec =

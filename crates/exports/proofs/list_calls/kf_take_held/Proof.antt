@@ -23,7 +23,7 @@ same-length-2 c = search needs
 returns : tie.Need-returns
 returns c =
     let e = c .before .before .before .before .before .before .take-held .ensures in
-    rw (← c .before .before .before .before .before .before .before .before .before .extent .ensures) (rw (← e .0) (c .before .taken-held-answer .ensures), e .1)
+    rw (← c .before .before .before .before .before .before .before .before .before .extent .ensures) (record { answer = rw (← e .said) (c .before .taken-held-answer .ensures); map = e .map; counts = e .counts })
 
 pub kf-take-held-spec : {M : Type 1} → statement M
 kf-take-held-spec = tie.close (tie.spec extent-requires take-held-requires taken-held-answer-requires same-length same-length-2 returns)

@@ -1,13 +1,16 @@
 -- `lists::pass::full` meets its contract.
 -- Assumes nothing.
 use mathlib.Core.Path.{_∙_}
-use Rattle.lists.proofs.Staged.{full-not, full-by}
+use Rattle.lists.proofs.Staged.{full-not, full-staging, full-by}
 use borrow.Author.Needs.{needs}
 use Rattle.lists.proofs.pass.full.Statement.{statement}
 use Rattle.lists.proofs.pass.full.Tie as tie
 
 returns : tie.Need-returns
 returns c = full-not _ _ _ (search needs)
+
+returns-2 : tie.Need-returns-2
+returns-2 c = full-staging _ _ _ (search needs)
 
 cast-start : tie.Need-cast-start
 cast-start c = search needs
@@ -21,8 +24,8 @@ add-end c = search needs
 meets-requires : tie.Need-meets-requires
 meets-requires c κs = search needs
 
-returns-2 : tie.Need-returns-2
-returns-2 c = c .meets .ensures ∙ full-by _ _ _ (search needs)
+returns-3 : tie.Need-returns-3
+returns-3 c = c .meets .ensures ∙ full-by _ _ _ (search needs) (search needs)
 
 pub full-spec : {M : Type 1} → statement M
-full-spec = tie.close (tie.spec returns cast-start cast-end add-end meets-requires returns-2)
+full-spec = tie.close (tie.spec returns returns-2 cast-start cast-end add-end meets-requires returns-3)
