@@ -66,7 +66,7 @@ returns c = let x = c .before .before .before .before .before .before .before .b
       joiner =
           filled-changed (x .up) (x .write) (x .list) (x .s) (x .e) (x .w) (x .r) (now (x .new)) (length (now (x .free))) (c .before .before .before .before .before .before .before .before .before .before .before .before .before .before .before .before .before .before .before .before .before .pre) (z .result) (z .ensures)
           (h .result) _ (omega (arith, h .kept .1 .1 .1 .1 .0)) (h .ensures) (k .result) _ (k .ensures);
-      gap = c .before .before .before .before .before .before .before .before .before .before .before .before .before .before .larger .ensures;
+      gap = omega (arith, c .before .before .before .before .before .before .before .before .before .before .before .before .before .before .larger .ensures);
       place = rw (← z .ensures) (f .ensures .0);
       bytes = rw (← z .ensures) (f .ensures .1);
       clear = c .before .before .before .before .before .before .before .before .before .before .before .before .before .before .before .before .before .before .stays-clear .ensures;
