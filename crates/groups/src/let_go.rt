@@ -20,12 +20,12 @@ ghost use Rattle.groups.specs.Answer.{LetsGo};
 ghost use Rattle.groups.specs.Measured.{MeasuredIs};
 
 // The new reverse map planned, and the bytes of the new counts and of the free extents.
-pub struct Measure {
+pub(crate) struct Measure {
     pub plan: Plan,
     pub lengths: Lengths,
 }
 
-pub enum Measured {
+pub(crate) enum Measured {
     Refused(EditRefusal),
     Ready(Measure),
 }

@@ -19,12 +19,12 @@ ghost use Rattle.lists.specs.Answer.{editNumber, editedOutcome};
 ghost use Rattle.groups.specs.TakeHeldAnswer.{TakesHeld, countsFirst, heldFirst, RaisingIs};
 
 // The new reverse map planned, and the bytes of the new counts.
-pub struct Raise {
+pub(crate) struct Raise {
     pub plan: Plan,
     pub counts: usize,
 }
 
-pub enum Raising {
+pub(crate) enum Raising {
     Refused(EditRefusal),
     Ready(Raise),
 }

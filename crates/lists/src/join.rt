@@ -11,7 +11,7 @@ ghost use Rattle.lists.specs.Release.{stop};
 ghost use Rattle.lists.specs.Passes.{putIf, pending, goesOn, fewer, more, next, fresh, share, changed, Lies, Fits, Room, Cut, Pushed};
 
 // The record that waits for its successor, none if its count is 0; `at` is the place behind the finished ones.
-pub struct Joiner {
+pub(crate) struct Joiner {
     pub start: u32,
     pub count: u32,
     pub owners: u32,

@@ -33,7 +33,7 @@ ghost use Rattle.lists.specs.Steps.{edited, passOutcome, Passable};
 ghost use Rattle.lists.specs.Passes.{begun, StepAsks, Stepped};
 
 // What is carried from record to record.
-pub struct Walk {
+pub(crate) struct Walk {
     // the record before
     pub prev: Refcount,
     pub joiner: Joiner,

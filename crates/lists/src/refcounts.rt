@@ -17,7 +17,7 @@ ghost use Rattle.lists.specs.Answer.{releasedOutcome, lengthsOf, Release
 ghost use Rattle.lists.specs.Steps.{measureOutcome, Writable};
 
 // 22 by start and count.
-pub fn good_extent(startblock: u32, blockcount: u32) -> bool
+pub(crate) fn good_extent(startblock: u32, blockcount: u32) -> bool
     ensures { λ r. ⌜ r ≡ goodExtent startblock blockcount ⌝ }
 {
     if blockcount == 0 {

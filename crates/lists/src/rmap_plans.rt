@@ -9,14 +9,14 @@ pub enum Edit {
 }
 
 // What a record passes of the searches of an edit: `tests` of specs/RmapPlans.antt.
-pub struct Hits {
+pub(crate) struct Hits {
     pub first: bool,
     pub second: bool,
     pub third: bool,
 }
 
 // One pass over a list: whether it is in order, and the first record that passes each search, or the number of records.
-pub struct Scan {
+pub(crate) struct Scan {
     pub ordered: bool,
     pub first: usize,
     pub second: usize,
@@ -24,13 +24,13 @@ pub struct Scan {
 }
 
 // The questions on the list and on the extent: the first that fails, or what was found.
-pub enum Asked {
+pub(crate) enum Asked {
     Refused(EditRefusal),
     Found(Scan),
 }
 
 // A record, and whether it was joined to one of the list.
-pub struct Joined {
+pub(crate) struct Joined {
     pub rmap: Rmap,
     pub joins: bool,
 }
