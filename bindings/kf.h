@@ -1,8 +1,13 @@
 /* The C interface of the group trees. Link target/staticlib/libexports.a, made by `rt staticlib exports`.
  *
  * A slice passes as a pointer, which is not null, and the number of its elements. No two slices of a call overlap where one of them is
- * written. Every call but kf_crc32c answers 0 where it was done, else document 01's number of the refusal, and writes the four figures of
- * `said` whole. A list of records is its bytes as on disk: 24 for a reverse-map record, 12 for a shared count, 8 for a free extent.
+ * written. Every call but kf_crc32c answers 0 where it was done, else the number of the first question that failed, and writes the four
+ * figures of `said` whole where it has them. docs/QUESTIONS.md says each number's question, and what the words below mean; the numbers in
+ * brackets below are the questions of a call, in the order in which they are asked. A list of records is its bytes as on disk: 24 for a
+ * reverse-map record, 12 for a shared count, 8 for a free extent.
+ *
+ * A call keeps nothing: it reads and writes what it is given and no other memory but its stack, so calls on memory of their own may run at
+ * the same time.
  *
  * A geometry is its six numbers: the version (4 or 5), the block size in bytes, the blocks of a group, the group's number, and the 16 bytes
  * of the volume's UUID as two big-endian numbers. kind 0 is the reverse map, any other number the shared counts. */
@@ -43,9 +48,9 @@ uint32_t kf_build(KF_GEOMETRY, uint32_t kind, const uint8_t *list, size_t list_l
                   uint8_t *out, size_t out_len, uint64_t said[4]);
 
 /* The records of a tree of so many levels, from its root, and its blocks by level, leaves first. The image is the group, block n at n times
- * the block size. The stack takes 2 x levels x node capacity places, the scratch as many as `blocks` (1, 11, 12: nothing is touched). A later
- * refusal (13 to 15, 3 to 10) leaves all four zero; a finished walk leaves the stack and the scratch zero, and the lists past the result as
- * they were.
+ * the block size. The stack takes 2 x levels x node capacity places, the scratch as many as `blocks` (1, 11, 12; then at each block 13, 14,
+ * 3 to 10, 15). A refusal by 1, 11 or 12 touches none of the four; any other leaves all four zero. A finished walk leaves the stack and the
+ * scratch zero, and the lists past the result as they were.
  * said: visits, records, bytes of records, 0; refused: expected, found, visits, 0. */
 uint32_t kf_walk(KF_GEOMETRY, uint32_t kind, const uint8_t *image, size_t image_len, uint32_t root, uint32_t levels,
                  uint32_t *stack, size_t stack_len, uint64_t *scratch, size_t scratch_len,

@@ -24,7 +24,11 @@
 //! with a result or a [`Refusal`], whose number says which of the library's
 //! questions failed; all questions before it held. A refused call writes
 //! nothing, but a [`walk`] that had begun, which leaves zeros. Past a result
-//! nothing is written.
+//! nothing is written. No call keeps anything, so calls on memory of their own
+//! may run at the same time.
+//!
+//! The questions in short; `docs/QUESTIONS.md` of the repository has each in
+//! full, the order in which each call asks, and the words used here.
 //!
 //! | number | the question that failed |
 //! |---|---|
