@@ -94,6 +94,13 @@ fn one_edit(e: Edit, old: &[u8], x: Rmap, room: usize, tally: &mut Tally) {
     let left = want.accepted().unwrap_or_default();
     bytes(e.name(), "new list", new.holds(&left), &input);
     tally.add(e.name(), got.number);
+    if e == Edit::Insert && got.number == 23 {
+        tally.ahead(match paper::insert(old, x, room).number() {
+            None => "accepts",
+            Some(26) => "refuses by 26",
+            _ => "refuses by 23",
+        });
+    }
 }
 
 /// Rooms around a length: just enough, one short, none, more.

@@ -1,10 +1,11 @@
 //! The library beside the Rust original.
 //!
-//! `compare [--seed N] [--scale N] [WHAT ..]` gives both the same inputs and
-//! stops at the first difference, with the input printed. It counts the calls
-//! by their answer. `compare bench` times both, `compare real CASE ..` walks
-//! the trees of real volumes, `compare sample FILE` writes cases with the
-//! original's answers for the program `replay`.
+//! `compare [--seed N] [--scale N] [PART ..]` gives both the same inputs and
+//! stops at the first difference, with the input printed. It names each part
+//! that it ran, with the calls that it made, and counts the calls by their
+//! answer. `compare bench` times both, `compare real CASE ..` walks the trees
+//! of real volumes and follows their histories, `compare sample FILE` writes
+//! cases with the original's answers for the program `replay`.
 
 mod bench;
 mod blocks;
@@ -21,19 +22,76 @@ mod trees;
 use oracle::sample::Random;
 use tally::Tally;
 
-/// What there is to compare, and how.
-const WHAT: [(&str, fn(&mut Random, u64, &mut Tally)); 10] = [
-    ("crc", blocks::crcs),
-    ("lists", edits::accepted_lists),
-    ("blocks", blocks::blocks),
-    ("plans", trees::plans),
-    ("builds", trees::builds),
-    ("walks", trees::walks),
-    ("edits", edits::edits),
-    ("releases", edits::releases),
-    ("lets_go", edits::lets_go),
-    ("takes_held", held::takes),
+/// A part of the comparison: its name, what it tries, and how.
+struct Part {
+    name: &'static str,
+    tries: &'static str,
+    run: fn(&mut Random, u64, &mut Tally),
+}
+
+/// In this order: a part's seed goes by its place.
+const PARTS: [Part; 10] = [
+    Part {
+        name: "crc",
+        tries: "up to 599 bytes",
+        run: blocks::crcs,
+    },
+    Part {
+        name: "lists",
+        tries: "both kinds of list, accepted or not",
+        run: edits::accepted_lists,
+    },
+    Part {
+        name: "blocks",
+        tries: "blocks stamped, then mostly damaged",
+        run: blocks::blocks,
+    },
+    Part {
+        name: "plans",
+        tries: "full trees and one record more or fewer, then any number",
+        run: trees::plans,
+    },
+    Part {
+        name: "builds",
+        tries: "lists, block numbers and outputs that fit or do not",
+        run: trees::builds,
+    },
+    Part {
+        name: "walks",
+        tries: "trees built, stored, then walked whole, damaged or with less memory",
+        run: trees::walks,
+    },
+    Part {
+        name: "edits",
+        tries: "lists of up to two records of a small world, around the bounds, and long ones",
+        run: edits::edits,
+    },
+    Part {
+        name: "releases",
+        tries: "counts of up to two records of a small world, and around the bounds",
+        run: edits::releases,
+    },
+    Part {
+        name: "lets_go",
+        tries: "both lists, agreeing or not",
+        run: edits::lets_go,
+    },
+    Part {
+        name: "takes_held",
+        tries: "both lists, agreeing or not",
+        run: held::takes,
+    },
 ];
+
+/// Run a part, and say its name and its calls. A part that makes none has
+/// compared nothing.
+fn run(part: &Part, random: &mut Random, scale: u64, tally: &mut Tally) {
+    let before = tally.calls();
+    (part.run)(random, scale, tally);
+    let made = tally.calls() - before;
+    assert!(made > 0, "{} made no call", part.name);
+    println!("part {:<10} {made:>9}   {}", part.name, part.tries);
+}
 
 fn main() {
     let mut words: Vec<String> = std::env::args().skip(1).collect();
@@ -56,12 +114,13 @@ fn main() {
         _ => (),
     }
     for w in &words {
-        assert!(WHAT.iter().any(|(n, _)| n == w), "no comparison {w}");
+        assert!(PARTS.iter().any(|p| p.name == w), "no part {w}");
     }
     let mut tally = Tally::default();
-    for (i, (name, f)) in WHAT.iter().enumerate() {
-        if words.is_empty() || words.iter().any(|w| w == name) {
-            f(&mut Random(seed * 1000 + i as u64), scale, &mut tally);
+    for (i, part) in PARTS.iter().enumerate() {
+        if words.is_empty() || words.iter().any(|w| w == part.name) {
+            let mut random = Random(seed * 1000 + i as u64);
+            run(part, &mut random, scale, &mut tally);
         }
     }
     tally.print();

@@ -2,10 +2,14 @@
 //! tool printed, and so does the original.
 //!
 //! A `.case` file has a geometry and blocks in hex, its `.expect` what was
-//! printed of them. The two group trees in scope are `rmap` and `refcount`. An
-//! `.ops` file is a history.
+//! printed of them. The two group trees in scope are `rmap` and `refcount`;
+//! the walk refuses any other tree, as the original does. An `.ops` file is a
+//! history. Each file is named with the calls that were made for it, and a
+//! file that gives rise to none is an error.
 
-use crate::library::{self, Edit};
+use crate::edits::expect;
+use crate::lent::Lent;
+use crate::library::{self, Edit, Said};
 use crate::lists::{count_bytes, Count, STAGING};
 use oracle::rmap::{Rmap, OFF_ATTR_FORK, OFF_BMBT_BLOCK, OFF_UNWRITTEN};
 use oracle::{bare, paper, Geometry, Tree};
@@ -42,8 +46,8 @@ fn kind(name: &str) -> Option<Tree> {
     }
 }
 
-/// The trees in scope of a case.
-pub fn read(case: &str) -> Vec<RealTree> {
+/// The trees of a case, with their names.
+fn read_all(case: &str) -> Vec<(String, RealTree)> {
     let text = fs::read_to_string(case).unwrap_or_else(|e| panic!("{case}: {e}"));
     let expect = case
         .strip_suffix(".case")
@@ -120,8 +124,15 @@ pub fn read(case: &str) -> Vec<RealTree> {
             _ => (),
         }
     }
-    all.retain(|(n, _)| kind(n).is_some());
-    all.into_iter().map(|(_, t)| t).collect()
+    all
+}
+
+/// The trees in scope of a case.
+pub fn read(case: &str) -> Vec<RealTree> {
+    let all = read_all(case).into_iter();
+    all.filter(|(n, _)| kind(n).is_some())
+        .map(|(_, t)| t)
+        .collect()
 }
 
 impl RealTree {
@@ -143,6 +154,15 @@ struct Group {
     map: Vec<u8>,
     counts: Vec<u8>,
     free: Vec<u8>,
+    made: Made,
+}
+
+/// The calls that a history has made.
+#[derive(Default)]
+struct Made {
+    insert: u32,
+    take_held: u32,
+    let_go: u32,
 }
 
 impl Group {
@@ -152,6 +172,7 @@ impl Group {
         assert_eq!(said.number, 0, "insert {x:?}");
         new.truncate(said.figures[0] as usize);
         self.map = new;
+        self.made.insert += 1;
     }
 
     fn share(&mut self, x: Rmap) {
@@ -162,6 +183,7 @@ impl Group {
         map.truncate(said.figures[0] as usize);
         counts.truncate(said.figures[1] as usize);
         (self.map, self.counts) = (map, counts);
+        self.made.take_held += 1;
     }
 
     fn go(&mut self, x: Rmap) {
@@ -177,18 +199,18 @@ impl Group {
         free.truncate(said.figures[2] as usize);
         (self.map, self.counts) = (map, counts);
         self.free.extend(free);
+        self.made.let_go += 1;
     }
 }
 
 /// A history of a real volume, of first takes, takes of held blocks and lets
 /// go: after every step the lists and the blocks freed are those of the
 /// volume. First takes go through `insert`, those too that the file calls
-/// `take_shared`.
-fn history(file: &str) {
+/// `take_shared`; takes of held blocks through `take_held`.
+fn history(file: &str, name: &str) -> u32 {
     let text = fs::read_to_string(file).unwrap_or_else(|e| panic!("{file}: {e}"));
     let steps: Vec<&str> = text.split("step ").skip(1).collect();
     let mut g = Group::default();
-    let mut changes = 0;
     for step in &steps {
         let mut due = Group::default();
         g.free.clear();
@@ -200,7 +222,6 @@ fn history(file: &str) {
                 owner: number(w[3]),
                 offset: number(w[4]),
             };
-            changes += u32::from(w.len() == 5 && w[0] != "rmap");
             match w[0] {
                 "go" => g.go(extent()),
                 "take" | "take_shared" => g.take(extent()),
@@ -218,54 +239,127 @@ fn history(file: &str) {
                 _ => panic!("{file}: {line}"),
             }
         }
-        let name = step.lines().next().unwrap_or_default();
-        assert!(g.map == due.map, "{file}: step {name}: the map");
-        assert!(g.counts == due.counts, "{file}: step {name}: the counts");
-        assert!(g.free == due.free, "{file}: step {name}: the blocks freed");
+        let at = step.lines().next().unwrap_or_default();
+        assert!(g.map == due.map, "{file}: step {at}: the map");
+        assert!(g.counts == due.counts, "{file}: step {at}: the counts");
+        assert!(g.free == due.free, "{file}: step {at}: the blocks freed");
     }
+    let m = &g.made;
     println!(
-        "history of {} steps, {changes} changes: lists and freed blocks as in the volume",
-        steps.len()
+        "{name}: {} steps, insert {}, take_held {}, let_go {}, lists and freed blocks as in the volume",
+        steps.len(),
+        m.insert,
+        m.take_held,
+        m.let_go
     );
+    m.insert + m.take_held + m.let_go
 }
 
-pub fn real(cases: &[String]) {
-    for case in cases {
-        if case.ends_with(".ops") {
-            history(case);
-            continue;
-        }
-        for t in read(case) {
-            let image = t.image();
-            let stack = 2 * t.levels as usize * paper::node_capacity(&t.g, t.tree) as usize;
-            let mut stack = vec![1; stack];
-            let mut scratch = vec![1; t.blocks.len()];
-            let mut blocks = vec![1; t.blocks.len()];
-            let mut records = vec![1; t.records.len()];
-            let said = library::walk(
-                &library::g(&t.g),
-                library::kind(t.tree),
-                &image,
-                t.root,
-                t.levels,
-                &mut stack,
-                &mut scratch,
-                &mut blocks,
-                &mut records,
-            );
-            let n = t.blocks.len() as u64;
-            let count = (t.records.len() / t.tree.record_len()) as u64;
-            assert_eq!(said.number, 0, "{case} {:?} {:?}", t.tree, said.figures);
-            assert_eq!(said.figures, [n, count, t.records.len() as u64, 0]);
-            assert!(blocks == t.blocks, "{case} {:?}: blocks", t.tree);
-            assert!(records == t.records, "{case} {:?}: records", t.tree);
-            let a = bare::walk_blocks(&t.g, t.tree, &image, t.root, t.levels);
-            let a = a.outcome.accepted().expect("the original walks it");
-            assert!(a.blocks == t.blocks && a.records == t.records);
-            println!(
-                "{:?} tree of {n} blocks: {count} records as printed",
-                t.tree
-            );
-        }
+/// A walk of a tree, read as one of a kind: what it said, and what it was
+/// lent, as many places and bytes as the tree has.
+struct Walk {
+    said: Said,
+    stack: Lent<u32>,
+    scratch: Lent<u64>,
+    blocks: Lent<u32>,
+    records: Lent<u8>,
+}
+
+fn walk(t: &RealTree, kind: Tree, image: &[u8]) -> Walk {
+    let stack = 2 * t.levels as usize * paper::node_capacity(&t.g, kind) as usize;
+    let mut stack = Lent::new(stack);
+    let mut scratch = Lent::new(t.blocks.len());
+    let mut blocks = Lent::new(t.blocks.len());
+    let mut records = Lent::new(t.records.len());
+    let said = library::walk(
+        &library::g(&t.g),
+        library::kind(kind),
+        image,
+        t.root,
+        t.levels,
+        stack.part(),
+        scratch.part(),
+        blocks.part(),
+        records.part(),
+    );
+    Walk {
+        said,
+        stack,
+        scratch,
+        blocks,
+        records,
     }
+}
+
+/// A tree in scope: its records and blocks are those printed.
+fn in_scope(case: &str, name: &str, t: &RealTree) -> u32 {
+    let image = t.image();
+    let w = walk(t, t.tree, &image);
+    let n = t.blocks.len() as u64;
+    let count = (t.records.len() / t.tree.record_len()) as u64;
+    let due = (0, [n, count, t.records.len() as u64, 0]);
+    assert_eq!((w.said.number, w.said.figures), due, "{case} {name}");
+    let left = [
+        w.stack.zero(),
+        w.scratch.zero(),
+        w.blocks.holds(&t.blocks),
+        w.records.holds(&t.records),
+    ];
+    assert!(left.iter().all(Result::is_ok), "{case} {name}: {left:?}");
+    let a = bare::walk_blocks(&t.g, t.tree, &image, t.root, t.levels);
+    let a = a.outcome.accepted().expect("the original walks it");
+    assert!(a.blocks == t.blocks && a.records == t.records);
+    println!("{case} {name}: 1 walk, blocks {n} and records {count} as printed");
+    1
+}
+
+/// Any other tree, read as each of the two kinds: 3 on version 4, 4 on
+/// version 5, with the original's values.
+fn out_of_scope(case: &str, name: &str, t: &RealTree) -> u32 {
+    let image = t.image();
+    let number = if t.g.version == 4 { 3 } else { 4 };
+    for kind in Tree::BOTH {
+        let w = walk(t, kind, &image);
+        let a = bare::walk_blocks(&t.g, kind, &image, t.root, t.levels);
+        let mut due = expect(&a.outcome, |_| [0; 4]);
+        due.1[2] = a.visits;
+        assert_eq!((w.said.number, w.said.figures), due, "{case} {name}");
+        assert_eq!(w.said.number, number, "{case} {name}");
+        let left = [
+            w.stack.zero(),
+            w.scratch.zero(),
+            w.blocks.zero(),
+            w.records.zero(),
+        ];
+        assert!(left.iter().all(Result::is_ok), "{case} {name}: {left:?}");
+    }
+    println!("{case} {name}: 2 walks, refused by {number} as rmap and as refcount");
+    2
+}
+
+/// The name of a file without its folder.
+pub fn file_name(path: &str) -> &str {
+    path.rsplit('/').next().unwrap_or(path)
+}
+
+pub fn real(files: &[String]) {
+    assert!(!files.is_empty(), "no case and no history is given");
+    let mut all = 0;
+    for file in files {
+        let name = file_name(file);
+        let calls: u32 = if file.ends_with(".ops") {
+            history(file, name)
+        } else {
+            read_all(file)
+                .iter()
+                .map(|(tree, t)| match kind(tree) {
+                    Some(_) => in_scope(name, tree, t),
+                    None => out_of_scope(name, tree, t),
+                })
+                .sum()
+        };
+        assert!(calls > 0, "{file} made no call");
+        all += calls;
+    }
+    println!("all: {} files, {all} calls, no difference", files.len());
 }

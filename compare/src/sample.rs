@@ -42,6 +42,25 @@ use std::collections::BTreeMap;
 
 const FILL: u8 = 0xA5;
 
+/// The calls by their number in a case.
+const CALLS: [&str; 15] = [
+    "end",
+    "crc32c",
+    "check_rmaps",
+    "check_refcounts",
+    "check_block",
+    "plan",
+    "build",
+    "walk",
+    "insert",
+    "insert_shared",
+    "remove",
+    "release",
+    "let_go",
+    "walk of real blocks",
+    "take_held",
+];
+
 #[derive(Default)]
 struct Case {
     head: [u32; 32],
@@ -369,7 +388,11 @@ fn tree_cases(r: &mut Random, cases: &mut Cases) {
 /// Trees of real volumes: each of their blocks checked, and the walk as far
 /// as the group's image is small.
 fn real_cases(files: &[String], cases: &mut Cases) {
-    for t in files.iter().flat_map(|f| real::read(f)) {
+    let trees = files
+        .iter()
+        .flat_map(|f| real::read(f).into_iter().map(move |t| (f, t)));
+    for (file, t) in trees {
+        let name = real::file_name(file);
         for (n, b) in &t.stored {
             let level = u16::from(b[4]) * 256 + u16::from(b[5]);
             let o = paper::parse_block(&t.g, t.tree, b, *n, level);
@@ -380,7 +403,7 @@ fn real_cases(files: &[String], cases: &mut Cases) {
         }
         let last = t.stored.iter().map(|s| s.0).max().expect("a block");
         if (u64::from(last) + 1) * t.g.block_size > 1460 * 2048 {
-            println!("left out: {:?} tree, blocks up to {last}", t.tree);
+            println!("{name} {:?}: not walked, blocks up to {last}", t.tree);
             continue;
         }
         let n = t.records.len();
@@ -424,8 +447,14 @@ pub fn sample(words: &[String]) {
     }
     out.extend([0; 128]);
     std::fs::write(file, &out).unwrap_or_else(|e| panic!("{file}: {e}"));
-    for ((call, number), n) in &cases.seen {
-        println!("call {call} answer {number}: {n}");
+    for (call, name) in (0..).zip(CALLS).skip(1) {
+        let mine = cases.seen.iter().filter(|(k, _)| k.0 == call);
+        let by: Vec<String> = match call {
+            // Its answer is the check itself.
+            1 => vec![format!("{} checks", mine.count())],
+            _ => mine.map(|(k, n)| format!("{}: {n}", k.1)).collect(),
+        };
+        println!("{call} {name}   {}", by.join(", "));
     }
     println!("{} cases, {} bytes", cases.all.len(), out.len());
 }

@@ -5,6 +5,7 @@ use std::collections::BTreeMap;
 #[derive(Default)]
 pub struct Tally {
     counts: BTreeMap<(&'static str, u32), u64>,
+    ahead: BTreeMap<&'static str, u64>,
 }
 
 impl Tally {
@@ -12,12 +13,21 @@ impl Tally {
         *self.counts.entry((call, number)).or_default() += 1;
     }
 
+    /// An `insert` refused by 23: what the original does with it.
+    pub fn ahead(&mut self, original: &'static str) {
+        *self.ahead.entry(original).or_default() += 1;
+    }
+
+    /// The calls made so far.
+    pub fn calls(&self) -> u64 {
+        self.counts.values().sum()
+    }
+
     /// One line for each call: how often in all, and how often with each
     /// number (0 is done).
     pub fn print(&self) {
         let mut calls: Vec<&str> = self.counts.keys().map(|k| k.0).collect();
         calls.dedup();
-        let mut all = 0;
         for call in calls {
             let mine: Vec<(u32, u64)> = self
                 .counts
@@ -26,11 +36,14 @@ impl Tally {
                 .map(|(k, &n)| (k.1, n))
                 .collect();
             let total: u64 = mine.iter().map(|m| m.1).sum();
-            all += total;
             let by: Vec<String> = mine.iter().map(|(k, n)| format!("{k}: {n}")).collect();
-            println!("{call:<14} {total:>9}   {}", by.join(", "));
+            println!("{call:<15} {total:>9}   {}", by.join(", "));
         }
-        println!("{:<14} {all:>9}   no difference", "all");
+        if !self.ahead.is_empty() {
+            let by: Vec<String> = self.ahead.iter().map(|(k, n)| format!("{k} {n}")).collect();
+            println!("insert by 23, the original: {}", by.join(", "));
+        }
+        println!("{:<15} {:>9}   no difference", "all", self.calls());
     }
 }
 
