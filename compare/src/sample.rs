@@ -16,8 +16,8 @@
 //! | 21, 22 | owner; the records of a plan; in 21 the blocks that a walk of 13 is given |
 //! | 23, 24 | offset |
 //! | 25, 26 | bytes of the two inputs |
-//! | 27, 28, 29 | bytes of the three outputs; of a walk 29 is 1 where it leaves both scratches zero, 0 where they are untouched |
-//! | 30, 31 | of a walk: places of the stack and of the level scratch |
+//! | 27, 28, 29 | bytes of the three outputs; of a walk 29 is 1 where it leaves stack and scratch zero, 0 where they are untouched |
+//! | 30, 31 | of a walk: places of the stack and of the scratch |
 //!
 //! Then the inputs, then what each output holds afterwards, all of it: outputs
 //! are lent filled with the byte 0xA5. The second input of a build is its
