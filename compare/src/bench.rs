@@ -70,18 +70,14 @@ fn crc(rows: &mut Vec<Row>) {
     let all = r.bytes(4096 * 4096);
     for n in [2048, 4096] {
         let part = &all[..n * 4096];
+        let fold = |crc: fn(&[u8]) -> u32| part.chunks_exact(4096).fold(0, |x, c| x ^ crc(c));
         rows.push(row(
             "CRC32C of 4,096 bytes",
             format!("{n} times"),
-            || {
-                part.chunks_exact(4096)
-                    .fold(0, |x, c| x ^ library::crc32c(c))
-            },
-            || {
-                part.chunks_exact(4096)
-                    .fold(0, |x, c| x ^ crc32c::crc32c(c))
-            },
+            || fold(library::crc32c),
+            || fold(crc32c::crc32c),
         ));
+        assert_eq!(fold(library::crc32c), fold(crc32c::crc32c));
     }
 }
 
@@ -154,7 +150,9 @@ fn trees(rows: &mut Vec<Row>) {
                 a
             },
         ));
-        assert!(records == *list);
+        let a = bare::walk_blocks(g, Tree::Rmap, &im.bytes, im.root, im.levels);
+        let a = a.outcome.accepted().expect("the original walks it");
+        assert!(records == *list && records == a.records && blocks == a.blocks);
     }
     for (n, (g, list, im)) in sizes.iter().zip(&made) {
         let lg = library::g(g);
@@ -323,6 +321,9 @@ pub fn bench(words: &[String]) {
         ("releases", releases),
         ("lets_go", lets_go),
     ];
+    for w in words {
+        assert!(parts.iter().any(|(n, _)| n == w), "no part {w}");
+    }
     let mut rows = Vec::new();
     for (name, f) in parts {
         if words.is_empty() || words.iter().any(|w| w == name) {
