@@ -1,4 +1,5 @@
-//! The functions of the static library as C sees them; `kf.h` says the same.
+//! The functions of the static library as C sees them; `kf.h` says the same,
+//! and `docs/QUESTIONS.md` of the repository what their answers mean.
 //!
 //! A slice passes as a pointer and a length. `said` is written whole.
 
