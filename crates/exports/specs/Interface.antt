@@ -35,7 +35,7 @@ extentOf start count owner offset = record { startblock = start; blockcount = co
 
 -- ---- what is said
 
--- 0 where the call was done, else document 01's number of the refusal
+-- 0 where the call was done, else the number of the refusal (docs/QUESTIONS.md)
 abbrev pub numberOf : {A : Type 0} → Outcome A → ℕ
 numberOf (done x) = 0
 numberOf (refused n v) = n

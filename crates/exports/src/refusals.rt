@@ -1,4 +1,4 @@
-// Document 01's number of each refusal, and its figures where it has some.
+// The number of each refusal (docs/QUESTIONS.md), and its figures where it has some.
 ghost use mathlib.Core.Path.{_≡_};
 ghost use Rattle.codec.specs.ListRefusal.{listNumber};
 ghost use Rattle.blocks.specs.Refusal.{fieldNumber, refusalNumber, fieldValues, refusalValues};

@@ -2,10 +2,10 @@
 -- Assumes nothing.
 use Prim.Native.Nat.{ℕ, _<_}
 use mathlib.Core.Bool.{true}
-use mathlib.Core.Path.{_≡_, refl, subst}
+use mathlib.Core.Path.{_≡_, subst}
 use mathlib.Core.List.{List, [], _∷_, _++_}
 use Rattle.codec.specs.Bytes.{IsBytes}
-use Rattle.codec.specs.Question.{done, Question, ask}
+use Rattle.codec.specs.Question.{done, ask}
 use Rattle.codec.specs.Records.{recordsOf, RmapFits, rmaps, refcounts}
 use Rattle.codec.specs.Rmaps as rmap
 use Rattle.codec.specs.declared.rmap.Rmap.{Rmap}

@@ -3,13 +3,12 @@
 use Prim.Native.Nat.{ℕ, _+_, _≤_, _<_, _^_}
 use native.Mathlib.Omega.{arith}
 use mathlib.Core.Path.{_≡_, refl, sym, ap, _∙_}
-use mathlib.Core.Bool.{Bool, true, false, not, cond, _&&_}
+use mathlib.Core.Bool.{Bool, true, false, not}
 use mathlib.Core.List.{List, [], _∷_, _++_}
-use lib.Dec.{ltb, leb}
 use lib.ListN.{length}
 use borrow.Author.Tests.{lt-ltb, le-leb, lt-leb, not-true, not-false}
 use Rattle.codec.specs.Bytes.{withBytes}
-use Rattle.codec.specs.Question.{none, Values, Outcome, done, refused, ask, mapOutcome}
+use Rattle.codec.specs.Question.{none, Outcome, done, refused, ask}
 use Rattle.codec.specs.Records.{recordsOf, bytesOf, rmaps, refcounts}
 use Rattle.codec.specs.Accepted.{whole}
 use Rattle.codec.specs.Rmaps as rmap
@@ -25,13 +24,13 @@ use Rattle.lists.specs.declared.rmap_plans.Plan.{Plan}
 use Rattle.lists.specs.declared.rmap_plans.Planned.the-variants as planned
 use Rattle.lists.specs.Extent.{goodExtent}
 use Rattle.lists.specs.Held.{heldAll}
-use Rattle.lists.specs.RmapEdits.{unclashed, insertShared}
+use Rattle.lists.specs.RmapEdits.{unclashed}
 use Rattle.lists.specs.Release.{clear}
-use Rattle.lists.specs.Raise.{raise, ownersFit, raiseOutcome, Raisable}
+use Rattle.lists.specs.Raise.{ownersFit, raiseOutcome, Raisable}
 use Rattle.lists.specs.Edits.{mapQuestions, countQuestions, written}
-use Rattle.lists.specs.Answer.{editNumber, editedOutcome, lengthOf}
+use Rattle.lists.specs.Answer.{editNumber, lengthOf}
 use Rattle.lists.specs.RmapPlans.{editBefore26, plannedOutcome, listOf, PlanIs}
-use Rattle.lists.proofs.Cases.{split, tests, conj, and-true}
+use Rattle.lists.proofs.Cases.{and-true}
 use Rattle.lists.proofs.RmapOrder.{good-facts}
 use Rattle.groups.specs.declared.BothSizes.{BothSizes}
 use Rattle.groups.specs.declared.TakenHeld.{TakenHeld}
@@ -40,7 +39,7 @@ use Rattle.groups.specs.declared.take_held.Raise.{Raise}
 use Rattle.groups.specs.declared.take_held.Raising.the-variants as raising
 use Rattle.groups.specs.TakeHeld.{Both, raising, fitBoth, takeHeldOutcome}
 use Rattle.groups.specs.TakeHeldAnswer.{BothIs, TakesHeld, countsFirst, heldFirst, RaisingIs}
-use Rattle.groups.proofs.HeldQuestions.{both, map-refuses, counts-refuse}
+use Rattle.groups.proofs.HeldQuestions.{map-refuses, counts-refuse}
 
 -- ---- the length of an outcome
 

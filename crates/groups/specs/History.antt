@@ -1,6 +1,6 @@
 -- Histories: lists of takes and lets go, refused ones included, run from a reverse map and counts, and what is claimed of each of them.
--- The statement is `EveryHistory`, at the end; what it speaks of stands before it. proofs/History.antt proves it, with an
--- instance in which blocks are shared, whose steps proofs/Example.antt has.
+-- The statement is `EveryHistory`, at the end; what it speaks of stands before it. proofs/History.antt proves it, with an instance in which blocks are
+-- shared. proofs/Example.antt has the steps of that instance, and proofs/Storing.antt builds, stores and walks back what it leaves.
 -- Assumes nothing.
 use Prim.Native.Nat.{ℕ, _+_, _*_, _≤_, max}
 use mathlib.Core.Bool.{Bool, true, false, not, _&&_, _||_}

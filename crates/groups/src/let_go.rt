@@ -15,7 +15,6 @@ use lists::write::write_plan;
 ghost use mathlib.Core.Path.{_≡_};
 ghost use mathlib.Core.Bool.{_&&_};
 ghost use lib.Dec.{leb};
-ghost use lib.ListN.{length};
 ghost use Rattle.groups.specs.Answer.{LetsGo};
 ghost use Rattle.groups.specs.Measured.{MeasuredIs};
 

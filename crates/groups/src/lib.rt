@@ -11,7 +11,7 @@ pub struct Sizes {
     pub free: usize,
 }
 
-// What letting an extent go comes to. Document 01's number of each refusal is `editNumber` of the crate lists.
+// What letting an extent go comes to. The number of each refusal (docs/QUESTIONS.md) is `editNumber` of the crate lists.
 pub enum LetGone {
     Done(Sizes),
     Refused(EditRefusal),

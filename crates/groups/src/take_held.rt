@@ -14,7 +14,6 @@ use lists::rmap_plans::Plan;
 use lists::rmap_plans::Planned;
 use lists::write::write_plan;
 ghost use mathlib.Core.Path.{_≡_};
-ghost use lib.ListN.{length};
 ghost use Rattle.lists.specs.Answer.{editNumber, editedOutcome};
 ghost use Rattle.groups.specs.TakeHeldAnswer.{TakesHeld, countsFirst, heldFirst, RaisingIs};
 

@@ -2,16 +2,16 @@
 -- Assumes nothing.
 use Prim.Native.Nat.{ℕ, _+_, _-_, _^_, _≤_, _<_, min, max}
 use native.Mathlib.Omega.{arith}
-use mathlib.Core.Path.{_≡_, refl, sym, ap, ap₂, _∙_}
-use mathlib.Core.Bool.{Bool, true, false, not, cond, _&&_}
-use mathlib.Core.List.{List, [], _∷_, _++_, append-assoc}
-use lib.Dec.{ltb, leb, eqb}
-use borrow.Author.Tests.{lt-ltb, le-leb, lt-leb, ne-eqb}
+use mathlib.Core.Path.{_≡_, refl, sym, ap, _∙_}
+use mathlib.Core.Bool.{Bool, true, false, not}
+use mathlib.Core.List.{List, [], _∷_, append-assoc}
+use lib.Dec.{ltb, leb}
+use borrow.Author.Tests.{ne-eqb}
 use Rattle.codec.specs.declared.refcount.Refcount.{Refcount}
 use Rattle.lists.specs.Release.{stop, piece, middle, clamp, lowered, lowerAll, joinAll}
 use Rattle.lists.specs.Raise.{raised, full, ownersFit}
 use Rattle.lists.specs.Steps.{edited, fitIf}
-use Rattle.lists.specs.Passes.{fewer, more, next, fresh, share, changed, changeAll}
+use Rattle.lists.specs.Passes.{fewer, next, fresh, share, changed, changeAll}
 use Rattle.lists.proofs.Cases.{split, tests, conj, not-false}
 use Rattle.lists.proofs.Counts.{From, Accepted, lower-one}
 use Rattle.lists.proofs.Raising.{raiseOn, raiseAll-on, fullAt, full-at}

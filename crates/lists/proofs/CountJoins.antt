@@ -1,21 +1,21 @@
 -- Laws of joining record by record: one push, and the three of a record that is changed.
 -- Assumes nothing.
-use Prim.Native.Nat.{ℕ, zero, suc, _+_, _-_, _*_, _^_, _≤_, _<_, min, max}
+use Prim.Native.Nat.{ℕ, _+_, _-_, _*_, _^_, _≤_, _<_, min, max}
 use native.Mathlib.Omega.{arith}
 use mathlib.Core.Path.{_≡_, refl, sym, ap, _∙_}
-use mathlib.Core.Bool.{Bool, true, false, not, _&&_, and-false, cond}
+use mathlib.Core.Bool.{Bool, true, false, not, _&&_, and-false}
 use mathlib.Core.List.{List, [], _∷_, _++_, append-assoc, append-nil}
 use lib.Dec.{ltb, leb, eqb}
 use lib.ListN.{length, length-append}
 use borrow.Author.Tests.{lt-ltb, le-ltb, le-leb, lt-leb, eq-eqb, ne-eqb, eqb-false}
-use Rattle.codec.specs.Records.{Kind, bytesOf, refcounts}
+use Rattle.codec.specs.Records.{bytesOf, refcounts}
 use Rattle.codec.specs.Refcounts.{block, end}
 use Rattle.codec.specs.declared.refcount.Refcount.{Refcount}
 use Rattle.codec.proofs.RecordLists.{length-bytesOf, bytesOf-append}
 use Rattle.codec.proofs.RecordKinds.{refcounts-lawful}
 use Rattle.lists.specs.declared.join.Joiner.{Joiner}
 use Rattle.lists.specs.Release.{stop, piece, clamp, alike, continues, joined, joinFrom, joinAll}
-use Rattle.lists.specs.Passes.{putIf, recordOf, pending, joinOn, goesOn, fewer, more, next, fresh, share, changed, changedFrom, Lies, Fits, Room, Cut, Pushed}
+use Rattle.lists.specs.Passes.{putIf, recordOf, pending, joinOn, goesOn, fewer, more, next, fresh, share, changed, Lies, Fits, Room, Cut, Pushed}
 use Rattle.lists.proofs.Cases.{split, tests, conj}
 use Rattle.lists.proofs.Counts.{Good, shared, staged, continues-is}
 use Rattle.lists.proofs.Puts.{put-nil, put-put}

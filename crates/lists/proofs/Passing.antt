@@ -4,15 +4,14 @@ use Prim.Native.Nat.{ℕ, _+_, _-_, _*_, _/_, _^_, _≤_, _<_, min, max}
 use native.Mathlib.Omega.{arith}
 use mathlib.Core.Path.{_≡_, refl, sym, ap, _∙_}
 use mathlib.Core.Logic.{_⊎_, inl, inr, ⊎-elim}
-use mathlib.Core.Bool.{Bool, true, false, not, cond, _&&_}
+use mathlib.Core.Bool.{Bool, true, false, not, _&&_}
 use mathlib.Core.List.{List, [], _∷_, _++_, append-nil}
-use lib.Dec.{ltb, leb, eqb}
+use lib.Dec.{ltb, leb}
 use native.Mathlib.Numerals.{add-one}
 use lib.ListN.{length, drop, drop-of-length-le}
 use borrow.Author.Tests.{le-leb}
 use Rattle.codec.specs.Bytes.{IsBytes, bytesAt, withBytes}
-use Rattle.codec.specs.Question.{none, Outcome, done, refused, mapOutcome}
-use Rattle.codec.specs.Records.{Kind, recordsOf, bytesOf, refcounts, freeExtents, AllStorable}
+use Rattle.codec.specs.Records.{recordsOf, bytesOf, refcounts, freeExtents, AllStorable}
 use Rattle.codec.specs.Accepted.{inOrder}
 use Rattle.codec.specs.Refcounts.{staging, block, end, good, follows, least, accepted}
 use Rattle.codec.specs.declared.check.ListRefusal.the-variants.{RefcountOrder}
@@ -32,7 +31,7 @@ use Rattle.lists.specs.Raise.{full, ownersFit, Raisable}
 use Rattle.lists.specs.Answer.{releasedOutcome, lengthsOf}
 use Rattle.lists.specs.Steps.{edited, fitIf, passOutcome, Writable, Passable}
 use Rattle.lists.specs.Passes.{putIf, run, pending, joinOn, fresh, share, changed, changedFrom, changeAll, begun, Lies, Fits, Room, Cut, Pushed, StepAsks, Stepped}
-use Rattle.lists.proofs.Cases.{split, tests, and-true}
+use Rattle.lists.proofs.Cases.{tests, and-true}
 use Rattle.lists.proofs.Places.{goodPlace, acceptedFrom, good-place, follows-place}
 use Rattle.lists.proofs.Counts.{OfKind, shared, staged, Good, from-facts, accepted-facts}
 use Rattle.lists.proofs.Runs.{gaps, unshared-gaps}

@@ -2,13 +2,13 @@
 -- Assumes nothing.
 use Prim.Native.Nat.{ℕ, _+_, _%_, _≤_}
 use native.Mathlib.Omega.{arith}
-use mathlib.Core.Path.{_≡_, refl, sym, ap, _∙_}
+use mathlib.Core.Path.{_≡_, refl, ap, _∙_}
 use mathlib.Core.Bool.{true, false}
 use mathlib.Core.List.{List}
 use lib.ListN.{length}
 use borrow.Author.Tests.{eq-eqb, ne-eqb}
 use Rattle.codec.specs.Question.{none, Values, Outcome, done, refused, mapOutcome}
-use Rattle.codec.specs.Records.{Kind, recordsOf, bytesOf, refcounts}
+use Rattle.codec.specs.Records.{recordsOf, bytesOf, refcounts}
 use Rattle.codec.specs.Accepted.{whole}
 use Rattle.codec.specs.Refcounts.{accepted}
 use Rattle.codec.specs.declared.refcount.Refcount.{Refcount}

@@ -1,15 +1,15 @@
 -- The owners over each block before and after a raise; and that a raise keeps 21 and can be stored.
 -- Assumes nothing.
-use Prim.Native.Nat.{ℕ, zero, suc, _+_, _-_, _^_, _≤_, _<_, min, max}
+use Prim.Native.Nat.{ℕ, suc, _+_, _-_, _^_, _≤_, _<_, min, max}
 use mathlib.Core.Bool.{Bool, true, false, not, cond, _&&_}
-use mathlib.Core.Path.{_≡_, refl, sym, ap, subst, _∙_}
+use mathlib.Core.Path.{_≡_, refl, sym, subst, _∙_}
 use mathlib.Core.List.{List, [], _∷_, _++_, append-assoc, append-nil}
 use native.Mathlib.Omega.{arith}
 use native.Mathlib.Nat.{add-zero, zero-add}
 use lib.Dec.{ltb, leb, eqb}
-use borrow.Author.Tests.{lt-ltb, le-ltb, le-leb, lt-leb, ne-eqb}
+use borrow.Author.Tests.{le-ltb, le-leb, lt-leb, ne-eqb}
 use Rattle.codec.specs.Bytes.{IsBytes}
-use Rattle.codec.specs.Question.{Outcome, done, ask, answer}
+use Rattle.codec.specs.Question.{done, ask}
 use Rattle.codec.specs.Records.{recordsOf, AllStorable, refcounts}
 use Rattle.codec.specs.Refcounts as refcount
 use Rattle.codec.specs.Refcounts.{staging}
@@ -18,7 +18,7 @@ use Rattle.codec.proofs.Meaning.{done-means}
 use Rattle.codec.proofs.RecordKinds.{refcounts-lawful}
 use Rattle.codec.proofs.ListBytes.{storable-recordsOf}
 use Rattle.lists.specs.Extent.{over, within, goodExtent}
-use Rattle.lists.specs.Release.{owners, clear, stop, piece, clamp, joinAll}
+use Rattle.lists.specs.Release.{owners, clear, stop, piece, clamp}
 use Rattle.lists.specs.Raise.{raised, raiseAll, raise, full, ownersFit, raiseOutcome}
 use Rattle.lists.specs.Edits.{countQuestions}
 use Rattle.lists.proofs.Cases.{split, tests, conj, not-false, within-in, within-left, within-right}

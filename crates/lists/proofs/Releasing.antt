@@ -2,15 +2,15 @@
 -- Assumes nothing.
 use Prim.Native.Nat.{ℕ, _+_, _%_, _^_, _≤_, _<_}
 use native.Mathlib.Omega.{arith}
-use mathlib.Core.Path.{_≡_, refl, sym, ap, _∙_}
+use mathlib.Core.Path.{_≡_, refl, ap, _∙_}
 use mathlib.Core.Bool.{Bool, true, false, cond, _&&_, and-false}
-use mathlib.Core.List.{List, [], _∷_, _++_}
-use lib.Dec.{ltb, leb, eqb}
+use mathlib.Core.List.{List, []}
+use lib.Dec.{ltb, leb}
 use lib.ListN.{length}
 use borrow.Author.Tests.{le-leb, lt-leb, eq-eqb, ne-eqb}
 use Rattle.codec.specs.Bytes.{withBytes}
-use Rattle.codec.specs.Question.{none, Outcome, done, refused, mapOutcome}
-use Rattle.codec.specs.Records.{Kind, recordsOf, bytesOf, refcounts, freeExtents}
+use Rattle.codec.specs.Question.{none, Outcome, done, refused}
+use Rattle.codec.specs.Records.{recordsOf, bytesOf, refcounts, freeExtents}
 use Rattle.codec.specs.Accepted.{whole}
 use Rattle.codec.specs.Refcounts.{accepted, checkOrder}
 use Rattle.codec.specs.declared.refcount.Refcount.{Refcount}
@@ -22,7 +22,7 @@ use Rattle.lists.specs.declared.Released.the-variants as released
 use Rattle.lists.specs.Extent.{goodExtent}
 use Rattle.lists.specs.Release.{clear, release, unshared}
 use Rattle.lists.specs.Edits.{Freed, fits, releaseOutcome, written}
-use Rattle.lists.specs.Answer.{editNumber, releasedOutcome, lengthsOf, ReleaseIs}
+use Rattle.lists.specs.Answer.{releasedOutcome, lengthsOf, ReleaseIs}
 use Rattle.lists.specs.Steps.{freed, measureOutcome, Writable, passOutcome}
 use Rattle.lists.proofs.Cases.{split, tests, conj}
 

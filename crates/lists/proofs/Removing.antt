@@ -4,21 +4,21 @@ use Prim.Native.Nat.{ℕ, suc, _+_, _-_, _≤_, _<_}
 use native.Mathlib.Omega.{arith}
 use native.Mathlib.Numerals.{add-one}
 use mathlib.Core.Path.{_≡_, refl, sym, ap, _∙_}
-use mathlib.Core.Bool.{Bool, true, false, cond, _&&_}
+use mathlib.Core.Bool.{true, cond, _&&_}
 use mathlib.Core.List.{List, [], _∷_, _++_, append-assoc, append-nil}
 use mathlib.Core.Option.{some}
-use lib.Dec.{ltb, leb}
+use lib.Dec.{ltb}
 use lib.ListN.{length, getD, take, drop, length-take, take-append-drop}
 use lib.Seq.{getD-take, drop-drop}
-use borrow.Author.Tests.{lt-ltb, le-ltb}
+use borrow.Author.Tests.{lt-ltb}
 use Rattle.codec.specs.Rmaps.{end, before, follows, least}
 use Rattle.codec.specs.declared.rmap.Rmap.{Rmap}
 use Rattle.lists.specs.RmapEdits.{first, any, replace, place, contains, contained, linesUp, chosen, front, later, placeLater, cutOut, remove}
 use Rattle.lists.specs.RmapPlans.{indexWhere, seat, run}
-use Rattle.lists.proofs.Cases.{split, tests, conj, and-l, and-r}
+use Rattle.lists.proofs.Cases.{split, tests, conj}
 use Rattle.lists.proofs.Found.{contains-ends, chosen-contains}
-use Rattle.lists.proofs.Index.{index-le, index-passes, index-same, index-drop, first-some, first-none, any-index, replace-at, index-first}
-use Rattle.lists.proofs.RmapOrder.{Accepted, ascending, le-start, byStart, le-not-before, not-before-le}
+use Rattle.lists.proofs.Index.{index-passes, index-same, index-drop, first-some, any-index, replace-at, index-first}
+use Rattle.lists.proofs.RmapOrder.{Accepted, ascending, le-start, not-before-le}
 use Rattle.lists.proofs.Seats.{seat-past, place-at, place-past}
 
 -- the first that contains x and lines up, else the first that contains it

@@ -2,7 +2,7 @@
 -- Assumes nothing.
 use Prim.Native.Nat.{ℕ, suc, _-_, _≤_, _<_}
 use native.Mathlib.Omega.{arith}
-use mathlib.Core.Path.{_≡_, refl, ap, sym, _∙_}
+use mathlib.Core.Path.{_≡_, refl, ap}
 use mathlib.Core.Bool.{Bool, true, false, not}
 use mathlib.Core.List.{List, [], _∷_, _++_}
 use lib.Dec.{ltb}
@@ -13,7 +13,7 @@ use Rattle.lists.specs.RmapEdits.{replace, nothing, place}
 use Rattle.lists.specs.RmapPlans.{indexWhere, seat}
 use Rattle.lists.proofs.Cases.{split, tests, not-false}
 use Rattle.lists.proofs.Index.{index-first, index-passes}
-use Rattle.lists.proofs.RmapOrder.{LeR, le-trans, Accepted, ascending, After, Acc, acc-replace, acc-nothing, not-before-le, le-not-before}
+use Rattle.lists.proofs.RmapOrder.{le-trans, Accepted, ascending, After, Acc, acc-replace, acc-nothing, not-before-le, le-not-before}
 
 -- a record at a lower index stands before what a later one stands before
 below : (z : Rmap) (l : List Rmap) (i j : ℕ) → Accepted l → i ≤ j → j < length l → before (getD l i least) z ≡ false → before (getD l j least) z ≡ false

@@ -8,7 +8,6 @@ use native.Mathlib.Omega.{arith}
 use native.Mathlib.Nat.{zero-add}
 use lib.Dec.{ltb, leb}
 use borrow.Author.Tests.{lt-ltb, le-ltb, le-leb, lt-leb}
-use Rattle.codec.specs.Bytes.{IsBytes}
 use Rattle.codec.specs.Question.{done, ask}
 use Rattle.codec.specs.Bytes as bytes
 use Rattle.codec.specs.Accepted as accepted

@@ -1,7 +1,6 @@
 -- The tests of one staging record and of one record's owners, and the goodness of an extent, exit by exit.
 -- Assumes nothing.
 use Prim.Native.Nat.{ℕ, _+_, _-_, _^_, _≤_, _<_}
-use native.Mathlib.Omega.{arith}
 use mathlib.Core.Path.{_≡_, refl, sym}
 use mathlib.Core.Bool.{Bool, true, false, not, _&&_, and-false}
 use lib.Dec.{ltb, leb}

@@ -11,7 +11,7 @@ use lib.ListN.{length, take, drop, length-append, length-take, length-drop, take
 use lib.Seq.{take-add, drop-drop}
 use borrow.Author.Tests.{lt-ltb, le-ltb, le-leb, lt-leb, ne-eqb}
 use Rattle.codec.specs.Bytes.{IsBytes, bytesAt}
-use Rattle.codec.specs.Records.{Kind, recordsOf, bytesOf, refcounts}
+use Rattle.codec.specs.Records.{recordsOf, bytesOf, refcounts}
 use Rattle.codec.specs.Refcounts.{staging, end, good, follows}
 use Rattle.codec.specs.declared.refcount.Refcount.{Refcount}
 use Rattle.codec.proofs.RecordLists.{length-bytesOf, bytesOf-append, length-recordsOf}

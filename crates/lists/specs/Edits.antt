@@ -1,4 +1,4 @@
--- What each edit of a list comes to: document 01's questions in order, then the new list. A list is lent bytes, and `room` is how many bytes
+-- What each edit of a list comes to: its questions in order (docs/QUESTIONS.md), then the new list. A list is lent bytes, and `room` is how many bytes
 -- were lent for the new one.
 -- Assumes nothing.
 use Prim.Native.Nat.{ℕ, _+_}

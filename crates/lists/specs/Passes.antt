@@ -8,7 +8,7 @@ use mathlib.Core.List.{List, [], _∷_, _++_}
 use lib.Dec.{ltb, leb, eqb}
 use lib.ListN.{length}
 use Rattle.codec.specs.Bytes.{withBytes}
-use Rattle.codec.specs.Records.{Kind, bytesOf, refcounts, freeExtents}
+use Rattle.codec.specs.Records.{bytesOf, refcounts, freeExtents}
 use Rattle.codec.specs.Refcounts.{staging, block, end, least}
 use Rattle.codec.specs.declared.refcount.Refcount.{Refcount}
 use Rattle.codec.specs.declared.free_extent.FreeExtent.{FreeExtent}

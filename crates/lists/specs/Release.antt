@@ -21,6 +21,7 @@ clear s e (r ∷ l) = not (staging r && (ltb (block r) e && ltb s (end r))) && c
 
 -- ---- one shared record: its start is its block
 
+-- where it ends
 abbrev pub stop : Refcount → ℕ
 stop r = r .startblock + r .blockcount
 

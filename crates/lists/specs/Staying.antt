@@ -7,7 +7,7 @@ use mathlib.Core.Bool.{Bool, true, cond}
 use mathlib.Core.List.{List, [], _∷_, _++_}
 use lib.Dec.{leb}
 use lib.ListN.{length, take, drop}
-use Rattle.codec.specs.Records.{Kind, bytesOf, refcounts}
+use Rattle.codec.specs.Records.{bytesOf, refcounts}
 use Rattle.codec.specs.declared.refcount.Refcount.{Refcount}
 use Rattle.lists.specs.declared.pass.Walk.{Walk}
 use Rattle.lists.specs.Release.{stop}

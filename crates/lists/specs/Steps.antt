@@ -7,7 +7,7 @@ use mathlib.Core.Bool.{Bool, true, cond}
 use mathlib.Core.List.{List, [], _∷_, _++_}
 use lib.ListN.{length}
 use Rattle.codec.specs.Question.{Outcome, done, ask, answer}
-use Rattle.codec.specs.Records.{Kind, recordsOf, bytesOf, refcounts, freeExtents}
+use Rattle.codec.specs.Records.{recordsOf, bytesOf, refcounts, freeExtents}
 use Rattle.codec.specs.Refcounts.{accepted}
 use Rattle.codec.specs.declared.refcount.Refcount.{Refcount}
 use Rattle.lists.specs.Extent.{goodExtent}

@@ -2,10 +2,10 @@
 use codec::free_extent::FreeExtent;
 use codec::free_extent::encode;
 ghost use mathlib.Core.Path.{_≡_};
-ghost use mathlib.Core.Bool.{Bool, true};
-ghost use Prim.Native.Nat.{ℕ, _+_, _<_, _≤_, _^_, min, max};
+ghost use mathlib.Core.Bool.{true};
+ghost use Prim.Native.Nat.{_+_, _<_, _≤_, _^_, min, max};
 ghost use lib.ListN.{length};
-ghost use Rattle.codec.specs.Records.{Kind, bytesOf, freeExtents};
+ghost use Rattle.codec.specs.Records.{bytesOf, freeExtents};
 ghost use Rattle.lists.specs.Passes.{putIf, run};
 
 // The smaller of two numbers.

@@ -2,11 +2,11 @@
 use codec::refcount::Refcount;
 use codec::refcount::encode;
 ghost use mathlib.Core.Path.{_≡_};
-ghost use mathlib.Core.Bool.{Bool, true, _&&_};
+ghost use mathlib.Core.Bool.{_&&_};
 ghost use lib.Dec.{ltb};
-ghost use Prim.Native.Nat.{ℕ, _+_, _<_, _≤_, _^_, min, max};
+ghost use Prim.Native.Nat.{_+_, _<_, _≤_, _^_, min, max};
 ghost use lib.ListN.{length};
-ghost use Rattle.codec.specs.Records.{Kind, bytesOf, refcounts};
+ghost use Rattle.codec.specs.Records.{bytesOf, refcounts};
 ghost use Rattle.lists.specs.Release.{stop};
 ghost use Rattle.lists.specs.Passes.{putIf, pending, goesOn, fewer, more, next, fresh, share, changed, Lies, Fits, Room, Cut, Pushed};
 

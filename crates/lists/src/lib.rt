@@ -16,7 +16,7 @@ mod search;
 mod unchanged;
 pub mod write;
 
-// Why an edit is refused. Document 01's number of each case is `editNumber` of specs/Answer.antt.
+// Why an edit is refused. The number of each case (docs/QUESTIONS.md) is `editNumber` of specs/Answer.antt.
 pub enum EditRefusal {
     // the list is not one: 19, 20 or 21
     List(ListRefusal),

@@ -19,14 +19,14 @@ use codec::refcount::decode;
 use codec::refcount::follows;
 use codec::refcount::good;
 ghost use mathlib.Core.Path.{_≡_};
-ghost use mathlib.Core.Bool.{Bool, true, not, _&&_};
-ghost use Prim.Native.Nat.{ℕ, _+_, _<_, _≤_};
-ghost use lib.Dec.{ltb, leb};
+ghost use mathlib.Core.Bool.{true, not, _&&_};
+ghost use Prim.Native.Nat.{_+_, _<_};
+ghost use lib.Dec.{ltb};
 ghost use lib.ListN.{length};
 ghost use Rattle.codec.specs.Bytes.{withBytes};
-ghost use Rattle.codec.specs.Records.{Kind, recordsOf, bytesOf, refcounts, freeExtents};
+ghost use Rattle.codec.specs.Records.{recordsOf, bytesOf, refcounts, freeExtents};
 ghost use Rattle.codec.specs.Refcounts.{staging, block, end};
-ghost use Rattle.lists.specs.Release.{stop, unshared};
+ghost use Rattle.lists.specs.Release.{unshared};
 ghost use Rattle.lists.specs.Raise.{full};
 ghost use Rattle.lists.specs.Answer.{releasedOutcome, lengthsOf};
 ghost use Rattle.lists.specs.Steps.{edited, passOutcome, Passable};
@@ -178,8 +178,10 @@ pub(crate) fn pass(
 ) -> Released
     requires { ⌜ Passable up (recordsOf refcounts (now counts)) startblock blockcount write list (length (now new)) (length (now free)) ⌝ }
     ensures said { λ r. ⌜ releasedOutcome r ≡ lengthsOf (passOutcome up (recordsOf refcounts (now (counts .entry))) startblock blockcount) ⌝ }
-    ensures counts { λ _. ⌜ (write ≡ true → now (new .exit) ≡ withBytes (now (new .entry)) 0 (bytesOf refcounts (edited up startblock (startblock + blockcount) (recordsOf refcounts (now (counts .entry)))))) ⌝ }
-    ensures extents { λ _. ⌜ (list ≡ true → now (free .exit) ≡ withBytes (now (free .entry)) 0 (bytesOf freeExtents (unshared (recordsOf refcounts (now (counts .entry))) startblock blockcount))) ⌝ }
+    ensures counts { λ _. ⌜ (write ≡ true → now (new .exit)
+        ≡ withBytes (now (new .entry)) 0 (bytesOf refcounts (edited up startblock (startblock + blockcount) (recordsOf refcounts (now (counts .entry)))))) ⌝ }
+    ensures extents { λ _. ⌜ (list ≡ true → now (free .exit)
+        ≡ withBytes (now (free .entry)) 0 (bytesOf freeExtents (unshared (recordsOf refcounts (now (counts .entry))) startblock blockcount))) ⌝ }
 {
     let s = startblock as u64;
     let e = s + blockcount as u64;

@@ -7,11 +7,11 @@ use crate::refcounts::good_extent;
 use crate::refcounts::refuse_extent;
 use codec::check::ListRefusal;
 ghost use mathlib.Core.Path.{_≡_};
-ghost use Prim.Native.Nat.{ℕ, _+_};
+ghost use Prim.Native.Nat.{_+_};
 ghost use lib.ListN.{length};
 ghost use Rattle.codec.specs.Bytes.{withBytes};
 ghost use Rattle.codec.specs.Question.{mapOutcome};
-ghost use Rattle.codec.specs.Records.{Kind, recordsOf, bytesOf, refcounts};
+ghost use Rattle.codec.specs.Records.{recordsOf, bytesOf, refcounts};
 ghost use Rattle.lists.specs.Raise.{raise, raiseOutcome, Raisable};
 ghost use Rattle.lists.specs.Answer.{editedOutcome, releasedOutcome, lengthOf};
 
@@ -52,7 +52,8 @@ pub fn measure(counts: &[u8], startblock: u32, blockcount: u32) -> Edited
 // The second step: writes the new counts, where the questions of the first hold and they fit.
 pub fn write(counts: &[u8], startblock: u32, blockcount: u32, new: &mut [u8])
     requires { ⌜ Raisable (recordsOf refcounts (now counts)) startblock blockcount (length (now new)) ⌝ }
-    ensures { λ _. ⌜ now (new .exit) ≡ withBytes (now (new .entry)) 0 (bytesOf refcounts (raise startblock (startblock + blockcount) (recordsOf refcounts (now (counts .entry))))) ⌝ }
+    ensures { λ _. ⌜ now (new .exit)
+        ≡ withBytes (now (new .entry)) 0 (bytesOf refcounts (raise startblock (startblock + blockcount) (recordsOf refcounts (now (counts .entry))))) ⌝ }
 {
     let mut free = [0u8; 1];
     pass(

@@ -6,11 +6,11 @@ use codec::check::ListChecked;
 use codec::check::ListRefusal;
 use codec::refcount::check_order;
 ghost use mathlib.Core.Path.{_≡_};
-ghost use mathlib.Core.Bool.{Bool, true, false};
-ghost use Prim.Native.Nat.{ℕ, _+_};
+ghost use mathlib.Core.Bool.{true, false};
+ghost use Prim.Native.Nat.{_+_};
 ghost use lib.ListN.{length};
 ghost use Rattle.codec.specs.Bytes.{withBytes};
-ghost use Rattle.codec.specs.Records.{Kind, recordsOf, bytesOf, refcounts, freeExtents};
+ghost use Rattle.codec.specs.Records.{recordsOf, bytesOf, refcounts, freeExtents};
 ghost use Rattle.lists.specs.Extent.{goodExtent};
 ghost use Rattle.lists.specs.Release.{release, unshared};
 ghost use Rattle.lists.specs.Answer.{releasedOutcome, lengthsOf, Releases};
@@ -65,8 +65,10 @@ pub fn measure(counts: &[u8], startblock: u32, blockcount: u32) -> Released
 // The second step: writes both lists, where the questions of the first hold and both fit.
 pub fn write(counts: &[u8], startblock: u32, blockcount: u32, new: &mut [u8], free: &mut [u8])
     requires { ⌜ Writable (recordsOf refcounts (now counts)) startblock blockcount (length (now new)) (length (now free)) ⌝ }
-    ensures counts { λ _. ⌜ now (new .exit) ≡ withBytes (now (new .entry)) 0 (bytesOf refcounts (release startblock (startblock + blockcount) (recordsOf refcounts (now (counts .entry))))) ⌝ }
-    ensures extents { λ _. ⌜ now (free .exit) ≡ withBytes (now (free .entry)) 0 (bytesOf freeExtents (unshared (recordsOf refcounts (now (counts .entry))) startblock blockcount)) ⌝ }
+    ensures counts { λ _. ⌜ now (new .exit)
+        ≡ withBytes (now (new .entry)) 0 (bytesOf refcounts (release startblock (startblock + blockcount) (recordsOf refcounts (now (counts .entry))))) ⌝ }
+    ensures extents { λ _. ⌜ now (free .exit)
+        ≡ withBytes (now (free .entry)) 0 (bytesOf freeExtents (unshared (recordsOf refcounts (now (counts .entry))) startblock blockcount)) ⌝ }
 {
     pass(counts, startblock, blockcount, false, new, free, true, true);
 }

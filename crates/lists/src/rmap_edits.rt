@@ -114,7 +114,8 @@ fn part_count(p: Part) -> usize
 // A new list planned from its parts, with its size.
 fn ready(old: &[u8], front: usize, first: Part, second: Part, rest: usize) -> Planned
     requires { ⌜ PartsGood (length (now old) / 24) front first second rest ⌝ }
-    ensures { λ r. ⌜ (plannedOutcome (recordsOf rmaps (now (old .entry))) r ≡ done (partsOf (recordsOf rmaps (now (old .entry))) front first second rest)) × PlannedGood (recordsOf rmaps (now (old .entry))) r ⌝ }
+    ensures { λ r. ⌜ (plannedOutcome (recordsOf rmaps (now (old .entry))) r ≡ done (partsOf (recordsOf rmaps (now (old .entry))) front first second rest))
+        × PlannedGood (recordsOf rmaps (now (old .entry))) r ⌝ }
 {
     let n = old.len() / RECORD;
     let count = front + part_count(first) + part_count(second) + (n - rest);

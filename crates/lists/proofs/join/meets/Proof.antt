@@ -1,6 +1,5 @@
 -- `lists::join::meets` meets its contract.
 -- Assumes nothing.
-use borrow.Author.Needs.{needs}
 use Rattle.lists.proofs.CountJoins.{meets-not, meets-by}
 use Rattle.lists.proofs.join.meets.Statement.{statement}
 use Rattle.lists.proofs.join.meets.Tie as tie

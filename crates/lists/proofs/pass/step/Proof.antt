@@ -1,11 +1,9 @@
 -- `lists::pass::step` meets its contract.
 -- Assumes nothing.
-use mathlib.Core.Path.{_≡_, refl, ap, _∙_}
+use mathlib.Core.Path.{refl}
 use native.Mathlib.Omega.{arith}
 use denote.Ref.{now}
 use lib.ListN.{length}
-use Rattle.codec.specs.Records.{bytesOf, freeExtents}
-use Rattle.lists.specs.Passes.{run, putIf}
 use Rattle.lists.proofs.Passing.{fill-before, cut-asks, filled-changed}
 use borrow.Author.Needs.{needs}
 use Rattle.lists.proofs.pass.step.Statement.{statement}

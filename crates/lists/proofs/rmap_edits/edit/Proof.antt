@@ -1,6 +1,5 @@
 -- `lists::rmap_edits::edit` meets its contract.
 -- Assumes nothing.
-use native.Mathlib.Omega.{arith}
 use denote.Ref.{now}
 use mathlib.Core.Path.{subst}
 use Rattle.lists.specs.declared.rmap_plans.Planned.the-variants.{Ready}

@@ -4,7 +4,7 @@ use native.Mathlib.Omega.{arith}
 use denote.Ref.{now}
 use mathlib.Core.Path.{refl, sym, _∙_}
 use borrow.Author.Tests.{lt-ltb, le-ltb}
-use Rattle.codec.specs.Records.{recordsOf, rmaps}
+use Rattle.codec.specs.Records.{rmaps}
 use Rattle.codec.proofs.RecordLists.{length-recordsOf}
 use Rattle.lists.specs.declared.EditRefusal.the-variants as why
 use Rattle.lists.specs.declared.rmap_plans.Edit.the-variants.{Remove}

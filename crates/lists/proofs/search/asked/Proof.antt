@@ -3,9 +3,9 @@
 use mathlib.Core.Path.{sym, _∙_}
 use borrow.Author.Tests.{not-true, not-false}
 use denote.Ref.{now}
-use Rattle.codec.specs.Rmaps.{accepted, good}
+use Rattle.codec.specs.Rmaps.{accepted}
 use Rattle.codec.specs.Records.{recordsOf, rmaps}
-use mathlib.Core.Bool.{true, false}
+use mathlib.Core.Bool.{true}
 use mathlib.Core.Path.{_≡_}
 use Rattle.lists.proofs.Planning.{asked-length, asked-order, asked-extent}
 use borrow.Author.Needs.{needs}

@@ -1,7 +1,7 @@
 -- `lists::search::scan` meets its contract. The invariant: the records from i on are in order behind the last one tested exactly when the whole
 -- list is, each search has found what there is among the first i, and the record i is read.
 -- Assumes nothing.
-use Prim.Native.Nat.{_≤_, _<_, _+_, _*_, _-_, _/_}
+use Prim.Native.Nat.{_≤_, _<_, _*_, _-_, _/_}
 use native.Mathlib.Omega.{arith}
 use mathlib.Core.Path.{_≡_, refl, sym, _∙_}
 use mathlib.Core.Logic.{⊎-elim}

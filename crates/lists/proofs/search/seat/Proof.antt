@@ -1,6 +1,6 @@
 -- `lists::search::seat` meets its contract. The invariant: the place lies from low up to high.
 -- Assumes nothing.
-use Prim.Native.Nat.{_≤_, _+_, _-_, _/_}
+use Prim.Native.Nat.{_≤_, _-_, _/_}
 use native.Mathlib.Omega.{arith}
 use mathlib.Core.Path.{sym, _∙_}
 use lib.ListN.{length}
