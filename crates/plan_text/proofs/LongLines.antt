@@ -1,19 +1,20 @@
 -- An input of 48 bytes or more asks for nothing: the longest line that does has 8 bytes of name, two numbers of 18 digits, two spaces and a
--- newline. So what a program reads of its input may end there.
+-- newline. So a program may read no further than that.
 -- Assumes nothing.
 use Prim.Native.Nat.{ℕ, suc, _+_, _-_, _≤_, _<_}
 use native.Mathlib.Omega.{arith}
 use mathlib.Core.Path.{_≡_, refl, ap, sym, _∙_}
 use mathlib.Core.Bool.{Bool, true, false, cond, _&&_, and-false}
-use mathlib.Core.List.{List, [], _∷_}
+use mathlib.Core.List.{List, [], _∷_, _++_}
 use mathlib.Core.Option.{Option, none, some}
 use lib.Dec.{eqb, leb}
-use lib.ListN.{length, take, length-drop}
+use lib.ListN.{length, take, replicate, length-drop}
 use lib.Seq.{length-take-le, take-all}
 use borrow.Author.Tests.{leb-true, leb-false, ltb-true}
 use Rattle.blocks.specs.declared.kind.TreeKind.{TreeKind}
-use Rattle.plan_text.specs.Line.{chomp, spaceAt, hasSpace, word, rest, rmapName, refcountName, kindOf, isNumber, requestOf, lineOf, request}
-use Rattle.plan_text.specs.Text.{reply, answerText}
+use Rattle.blocks.specs.declared.kind.TreeKind.the-variants.{Refcount}
+use Rattle.plan_text.specs.Line.{chomp, spaceAt, hasSpace, word, rest, rmapName, refcountName, kindOf, allDigits, isNumber, valueFrom, requestOf, lineOf, request, LongAsksNothing}
+use Rattle.plan_text.specs.Text.{reply, answerText, CutIsExact}
 use Rattle.plan_text.proofs.LineLaws.{same-long, name-none, number-long, request-name}
 
 -- a name has 8 bytes at most
@@ -70,11 +71,11 @@ chomp-length (b ∷ []) = go (eqb b 10)
     go false = omega arith
 chomp-length (b ∷ c ∷ l) = omega (arith, chomp-length (c ∷ l))
 
-pub long-input : (l : List ℕ) → 48 ≤ length l → request l ≡ none
+pub long-input : LongAsksNothing
 long-input l h = long-line (chomp l) (omega (arith, chomp-length l))
 
 -- so 48 bytes of an input or more tell what the whole of it asks for, and what is printed
-pub cut-input : (n : ℕ) (l : List ℕ) → 48 ≤ n → request (take n l) ≡ request l
+cut-input : (n : ℕ) (l : List ℕ) → 48 ≤ n → request (take n l) ≡ request l
 cut-input n l h = go (leb (length l) n) refl
   where
     go : (t : Bool) → leb (length l) n ≡ t → request (take n l) ≡ request l
@@ -84,5 +85,29 @@ cut-input n l h = go (leb (length l) n) refl
         let m : length (take n l) ≡ n = length-take-le n l (omega arith) in
         long-input (take n l) (omega arith) ∙ sym (long-input l (omega arith))
 
-pub cut-answer : (n : ℕ) (l : List ℕ) → 48 ≤ n → answerText (take n l) ≡ answerText l
-cut-answer n l h = ap reply (cut-input n l h)
+pub cut-is-exact : CutIsExact
+cut-is-exact n l h = ap reply (cut-input n l h)
+
+-- ---- the longest line, and one digit more
+
+-- `refcount 000000000000004096 000000000000000337` and a newline
+abbrev zeros : ℕ → List ℕ
+zeros n = replicate n 48
+
+abbrev longest : List ℕ
+longest = refcountName ++ ((32 ∷ zeros 14) ++ ((52 ∷ 48 ∷ 57 ∷ 54 ∷ 32 ∷ zeros 15) ++ (51 ∷ 51 ∷ 55 ∷ 10 ∷ [])))
+
+pub longest-asks : (length longest ≡ 47) × (request longest ≡ some (record { kind = Refcount; blocksize = 4096; records = 337 }))
+unfolding chomp spaceAt kindOf allDigits isNumber valueFrom requestOf lineOf
+longest-asks = (refl, refl)
+
+-- the same with one zero more in front of 337 has 48 bytes, and what it holds, cut anywhere from there on, prints `refused`
+abbrev too-long : List ℕ
+too-long = refcountName ++ ((32 ∷ zeros 14) ++ ((52 ∷ 48 ∷ 57 ∷ 54 ∷ 32 ∷ zeros 16) ++ (51 ∷ 51 ∷ 55 ∷ 10 ∷ [])))
+
+pub too-long-asks-nothing : (length too-long ≡ 48) × (request too-long ≡ none)
+too-long-asks-nothing = (refl, long-input too-long (omega arith))
+
+-- the cut of the program `plan`
+pub cut-at-64 : (input : List ℕ) → answerText (take 64 input) ≡ answerText input
+cut-at-64 input = cut-is-exact 64 input (omega arith)

@@ -1,7 +1,8 @@
 -- The line that the plan program reads: the tree, the block size and the number of records, parted by one space each. One newline or none
 -- ends the input.
 -- Assumes nothing.
-use Prim.Native.Nat.{ℕ, zero, suc, _+_, _-_, _*_}
+use Prim.Native.Nat.{ℕ, zero, suc, _+_, _-_, _*_, _≤_}
+use mathlib.Core.Path.{_≡_}
 use mathlib.Core.Bool.{Bool, true, false, cond, _&&_}
 use mathlib.Core.List.{List, [], _∷_}
 use mathlib.Core.Option.{Option, none, some}
@@ -74,3 +75,8 @@ lineOf l = cond (hasSpace l && hasSpace (rest l)) (requestOf (kindOf (word l)) (
 -- what the input asks for, if it is such a line
 abbrev pub request : List ℕ → Option Request
 request input = lineOf (chomp input)
+
+-- the longest line that asks for a plan has 47 bytes: a name of 8, two numbers of 18 digits, two spaces and a newline. Proved in
+-- proofs/LongLines.antt.
+abbrev pub LongAsksNothing : Type 0
+LongAsksNothing = (input : List ℕ) → 48 ≤ length input → request input ≡ none

@@ -1,11 +1,12 @@
 -- What the plan program prints, in ASCII.
 -- Assumes nothing.
-use Prim.Native.Nat.{ℕ, zero, suc, _+_, _/_, _%_}
+use Prim.Native.Nat.{ℕ, zero, suc, _+_, _/_, _%_, _≤_}
+use mathlib.Core.Path.{_≡_}
 use mathlib.Core.Bool.{cond}
 use mathlib.Core.List.{List, [], _∷_, _++_}
 use mathlib.Core.Option.{Option, none, some}
 use lib.Dec.{ltb}
-use lib.ListN.{replicate}
+use lib.ListN.{replicate, take}
 use Rattle.codec.specs.Question.{Outcome, done, refused}
 use Rattle.blocks.specs.declared.geometry.Geometry.{Geometry}
 use Rattle.trees.specs.Plan.{sum}
@@ -74,3 +75,8 @@ reply none = otherLine
 -- what the program prints for its input
 abbrev pub answerText : List ℕ → List ℕ
 answerText input = reply (request input)
+
+-- the first n bytes of an input, 48 or more, print what the whole of it prints: a program that reads no further loses nothing. Proved in
+-- proofs/LongLines.antt.
+abbrev pub CutIsExact : Type 0
+CutIsExact = (n : ℕ) (input : List ℕ) → 48 ≤ n → answerText (take n input) ≡ answerText input
