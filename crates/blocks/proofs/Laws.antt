@@ -86,9 +86,9 @@ product32 a b ha hb =
     let r : b ≤ 4294967295 = omega arith in
     mul-le-mul l r
 
--- a product against 2 ^ 64, decided by a quotient of 64 bits
-pub product64 : (x s : ℕ) → 0 < s → leb x (18446744073709551615 / s) ≡ ltb (x * s) (2 ^ 64)
-product64 x s pos = go (decLe (x * s) 18446744073709551615)
+-- a product against 2 ^ 64, decided by a quotient of 64 bits; y is the number that the code compares
+pub product64 : (x s : ℕ) → 0 < s → (y : ℕ) → y ≡ x → leb y (18446744073709551615 / s) ≡ ltb (x * s) (2 ^ 64)
+product64 x s pos y e = ap (λ (n : ℕ). leb n (18446744073709551615 / s)) e ∙ go (decLe (x * s) 18446744073709551615)
   where
     go : Dec (x * s ≤ 18446744073709551615) → leb x (18446744073709551615 / s) ≡ ltb (x * s) (2 ^ 64)
     go (yes h) =

@@ -1,4 +1,4 @@
--- The questions about one block, in document 01's order, and what the check comes to.
+-- The questions about one block, 1 to 10 of docs/QUESTIONS.md, in this order, and what the check comes to.
 -- Assumes nothing.
 use Prim.Native.Nat.{ℕ}
 use mathlib.Core.Bool.{Bool, true, false, cond}

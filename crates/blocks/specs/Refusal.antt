@@ -1,4 +1,4 @@
--- Document 01's number and values of each case of a refusal, and what a check of a block comes to.
+-- The number (docs/QUESTIONS.md) and the values of each case of a refusal, and what a check of a block comes to.
 -- Assumes nothing.
 use Prim.Native.Nat.{ℕ}
 use Rattle.codec.specs.Question.{Values, none, two, Outcome, done, refused}

@@ -1,4 +1,4 @@
-// The check of one block: questions 1 to 10, in document 01's order.
+// The check of one block: questions 1 to 10 of docs/QUESTIONS.md, in this order.
 ghost use mathlib.Core.Path.{_≡_};
 ghost use mathlib.Core.Bool.{true};
 ghost use Prim.Native.Nat.{_≤_};
@@ -31,7 +31,7 @@ pub enum Field {
     Records { expected: u64, found: u64 },
 }
 
-// Why a block is refused. Document 01's number of each case is `refusalNumber` of specs/Refusal.antt.
+// Why a block is refused. The number of each case is `refusalNumber` of specs/Refusal.antt; docs/QUESTIONS.md has its question.
 pub enum BlockRefusal {
     // the geometry is none: 1
     BadGeometry,

@@ -19,10 +19,10 @@ pub struct Geometry {
 pub struct AgBlock(pub u32);
 
 // A linear block number of the volume.
-pub struct LinearBlock(u64);
+pub(crate) struct LinearBlock(u64);
 
 // An address in units of 512 bytes.
-pub struct DiskAddress(pub(crate) u64);
+pub(crate) struct DiskAddress(pub(crate) u64);
 
 // The block number that stands for no block: a sibling that is not there.
 pub const NULL_AGBLOCK: u32 = 0xFFFF_FFFF;
@@ -69,7 +69,7 @@ impl Geometry {
 
 impl AgBlock {
     // The same block, counted through the volume.
-    pub fn linear(self, g: Geometry) -> LinearBlock
+    pub(crate) fn linear(self, g: Geometry) -> LinearBlock
         ensures { λ r. ⌜ r .0 ≡ linearOf g (self .0) ⌝ }
     {
         LinearBlock((g.agno as u64) * (g.agblocks as u64) + (self.0 as u64))
@@ -78,7 +78,7 @@ impl AgBlock {
 
 impl LinearBlock {
     // The block's address. Question 1 leaves room for that of every block of the group.
-    pub fn address(self, g: Geometry) -> DiskAddress
+    pub(crate) fn address(self, g: Geometry) -> DiskAddress
         requires { ⌜ self .0 * g .blocksize < 2 ^ 64 ⌝ }
         ensures { λ r. ⌜ r .0 ≡ addressOf g (self .0) ⌝ }
     {

@@ -19,7 +19,7 @@ impl TreeKind {
     }
 
     // The magic number of its blocks in a version that has such a tree. Both kinds here have one only.
-    pub fn magic(self, version: u16) -> u32
+    pub(crate) fn magic(self, version: u16) -> u32
         ensures { λ r. ⌜ r ≡ magicOf self version ⌝ }
     {
         match self {
@@ -59,7 +59,7 @@ impl TreeKind {
     }
 
     // What one place of a block at a level takes: a record in a leaf, an entry in a node.
-    pub fn place_len(self, level: u16) -> usize
+    pub(crate) fn place_len(self, level: u16) -> usize
         ensures { λ r. ⌜ r ≡ placeLen self level ⌝ }
     {
         if level == 0 {

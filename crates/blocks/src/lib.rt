@@ -4,4 +4,4 @@ pub mod check;
 pub mod geometry;
 pub mod kind;
 pub mod stamp;
-pub mod uuid;
+mod uuid;

@@ -5,7 +5,7 @@ ghost use Prim.Native.Nat.{_≤_};
 ghost use lib.ListN.{length};
 ghost use Rattle.codec.specs.Bytes.{withBytes};
 ghost use Rattle.blocks.specs.Geometry.{geometryOk};
-ghost use Rattle.blocks.specs.Tree.{headerLen};
+ghost use Rattle.blocks.specs.Tree.{headerLen, hasTree};
 ghost use Rattle.blocks.specs.Stamp.{siblings, plainHead, identityHead, stamped};
 use crate::geometry::AgBlock;
 use crate::geometry::Geometry;
@@ -61,7 +61,7 @@ fn stamp_identity(g: Geometry, block: AgBlock, b: &mut [u8])
 }
 
 // The header of a fresh block, with its check: on version 5 the whole 56 bytes, on version 4 the first 16. The check is over all of `b`, so
-// what stands after the header has to be there already.
+// what stands after the header has to be there already. The caller has asked questions 1 to 3.
 pub fn stamp(
     g: Geometry,
     kind: TreeKind,
@@ -72,7 +72,7 @@ pub fn stamp(
     right: AgBlock,
     b: &mut [u8],
 )
-    requires { ⌜ (geometryOk g ≡ true) × (headerLen (g .version) ≤ length (now b)) ⌝ }
+    requires { ⌜ (geometryOk g ≡ true) × (hasTree kind (g .version) ≡ true) × (headerLen (g .version) ≤ length (now b)) ⌝ }
     ensures { λ _. ⌜ now (b .exit) ≡ stamped g kind (block .0) level numrecs (left .0) (right .0) (now (b .entry)) ⌝ }
 {
     let version = g.version;

@@ -6,7 +6,7 @@ ghost use Rattle.codec.specs.Bytes.{bytesAt, withBytes};
 ghost use Rattle.blocks.specs.Check.{same};
 
 // Do the 16 bytes at `at` equal `uuid`?
-pub fn is_uuid(b: &[u8], at: usize, uuid: [u8; 16]) -> bool
+pub(crate) fn is_uuid(b: &[u8], at: usize, uuid: [u8; 16]) -> bool
     requires { ⌜ at + 16 ≤ length (now b) ⌝ }
     ensures { λ r. ⌜ r ≡ same (bytesAt (now (b .entry)) at 16) uuid ⌝ }
 {
@@ -21,7 +21,7 @@ pub fn is_uuid(b: &[u8], at: usize, uuid: [u8; 16]) -> bool
 }
 
 // Write `uuid` at `at`.
-pub fn put_uuid(b: &mut [u8], at: usize, uuid: [u8; 16])
+pub(crate) fn put_uuid(b: &mut [u8], at: usize, uuid: [u8; 16])
     requires { ⌜ at + 16 ≤ length (now b) ⌝ }
     ensures { λ _. ⌜ now (b .exit) ≡ withBytes (now (b .entry)) at uuid ⌝ }
 {

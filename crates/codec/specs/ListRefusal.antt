@@ -1,4 +1,4 @@
--- Document 01's number of each refusal of a list, and what a check of a list comes to.
+-- The number of each refusal of a list (docs/QUESTIONS.md), and what a check of a list comes to.
 -- Assumes nothing.
 use Prim.Native.Nat.{ℕ}
 use Rattle.codec.specs.Question.{none, Outcome, done, refused}

@@ -1,4 +1,4 @@
--- Questions asked in order. The first that fails gives the refusal: its number in document 01 and, where both are numbers, what was
+-- Questions asked in order. The first that fails gives the refusal: its number, of docs/QUESTIONS.md, and, where both are numbers, what was
 -- expected and what was found.
 -- Assumes nothing.
 use Prim.Native.Nat.{ℕ}

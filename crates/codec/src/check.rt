@@ -1,4 +1,5 @@
-// What a check of a list of records answers. Document 01's number of each case is `listNumber` of specs/ListRefusal.antt.
+// What a check of a list of records answers. The number of each case is `listNumber` of specs/ListRefusal.antt; docs/QUESTIONS.md has its
+// question.
 
 pub enum ListRefusal {
     // the bytes are not whole records

@@ -12,9 +12,6 @@ pub struct FreeExtent {
     pub blockcount: u32,
 }
 
-// The bytes of a record.
-pub const RECORD: usize = 8;
-
 // The extent at `at` bytes into `buf`.
 pub fn decode(buf: &[u8], at: usize) -> FreeExtent
     requires { ⌜ at + 8 ≤ length (now buf) ⌝ }

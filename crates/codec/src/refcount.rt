@@ -19,10 +19,10 @@ pub struct Refcount {
 }
 
 // The bytes of a record.
-pub const RECORD: usize = 12;
+const RECORD: usize = 12;
 
 // Bit 31 of the start.
-pub const COW_FLAG: u32 = 0x8000_0000;
+const COW_FLAG: u32 = 0x8000_0000;
 
 // The record at `at` bytes into `buf`.
 pub fn decode(buf: &[u8], at: usize) -> Refcount

@@ -24,7 +24,7 @@ pub struct Rmap {
 }
 
 // The bytes of a record.
-pub const RECORD: usize = 24;
+const RECORD: usize = 24;
 
 // The first owner that is reserved.
 const RESERVED: u64 = 0x8000_0000_0000_0000;

@@ -29,13 +29,13 @@ cast-t17 : tie.Need-cast-t17
 cast-t17 c = search needs
 
 returns-2 : tie.Need-returns-2
-returns-2 c = rw (← c .before .before .before .before .be16 .ensures, ← c .before .be162 .ensures, ← c .before .before .block-capacity .ensures, eq-eqb _ _ (c .before .before .before .if1 .left), lt-leb _ _ (c .if2 .taken))
+returns-2 c = rw (← c .before .before .before .before .be16 .ensures, ← c .before .be162 .ensures, ← c .before .before .block-capacity .ensures, eq-eqb _ _ (c .before .before .before .if1 .left), lt-leb (c .before .be162 .result) (c .before .before .block-capacity .result) (omega arith))
 
 header-len-requires : tie.Need-header-len-requires
 header-len-requires c κs = search needs
 
 returns-3 : tie.Need-returns-3
-returns-3 c = rw (← c .before .before .before .before .before .be16 .ensures, ← c .before .before .be162 .ensures, ← c .before .before .before .block-capacity .ensures, eq-eqb _ _ (c .before .before .before .before .if1 .left), le-leb _ _ (c .before .if2 .left), ← c .header-len .ensures)
+returns-3 c = rw (← c .before .before .before .before .before .be16 .ensures, ← c .before .before .be162 .ensures, ← c .before .before .before .block-capacity .ensures, eq-eqb _ _ (c .before .before .before .before .if1 .left), le-leb (c .before .before .be162 .result) (c .before .before .before .block-capacity .result) (omega arith), ← c .header-len .ensures)
 
 pub check-contents-spec : {M : Type 1} → statement M
 check-contents-spec =

@@ -1,11 +1,11 @@
 -- `codec::crc::crc32c_with_zeroed_crc` meets its contract: the three parts make the list with zeros at the place.
 -- Assumes nothing.
-use mathlib.Core.Path.{ap, ap₂, sym, _∙_}
+use mathlib.Core.Path.{_≡_, ap, ap₂, sym, _∙_}
 use mathlib.Core.List.{List, [], _∷_}
-use Prim.Native.Nat.{ℕ, _+_}
+use Prim.Native.Nat.{ℕ, _+_, _-_}
 use native.Mathlib.Omega.{arith}
 use lib.Bits.{bitXor}
-use lib.ListN.{drop, length-drop}
+use lib.ListN.{length, take, drop, length-drop}
 use lib.Seq.{length-take-le, take-all}
 use native.Mathlib.Nat.{le-of-eq}
 use Rattle.codec.specs.Crc.{crcBytes, crc32cOf}
@@ -13,6 +13,10 @@ use Rattle.codec.proofs.Division.{crcBytes-with}
 use borrow.Author.Needs.{needs}
 use Rattle.codec.proofs.crc.crc32c_with_zeroed_crc.Statement.{statement}
 use Rattle.codec.proofs.crc.crc32c_with_zeroed_crc.Tie as tie
+
+-- what stands after the four bytes of the field
+after-field : (l : List ℕ) (at after : ℕ) → after ≡ at + 4 → take (length l - after) (drop after l) ≡ drop (at + 4) l
+after-field l at after e = take-all (length l - after) (drop after l) (le-of-eq (length-drop after l)) ∙ ap (λ (n : ℕ). drop n l) e
 
 table-requires : tie.Need-table-requires
 table-requires c κs = search needs
@@ -55,7 +59,7 @@ returns c =
     (c .crc-bytes3 .ensures
     ∙ ap₂ crcBytes
     (c .before .before .before .crc-bytes2 .ensures ∙ ap (λ (x : ℕ). crcBytes x zeros) (c .before .before .before .before .before .before .crc-bytes .ensures))
-    (take-all _ (drop (at + 4) l) (le-of-eq (length-drop (at + 4) l)))
+    (after-field l at _ (omega arith))
     ∙ crcBytes-with 0xFFFF_FFFF l at zeros)
 
 pub crc32c-with-zeroed-crc-spec : {M : Type 1} → statement M

@@ -19,7 +19,7 @@ add-if2 : tie.Need-add-if2
 add-if2 c = search needs
 
 returns-2 : tie.Need-returns-2
-returns-2 c = good-long _ (omega arith) (c .if2 .taken)
+returns-2 c = good-long _ (omega arith) (omega arith)
 
 cast-if3 : tie.Need-cast-if3
 cast-if3 c = search needs
@@ -28,13 +28,13 @@ add-if3 : tie.Need-add-if3
 add-if3 c = search needs
 
 returns-3 : tie.Need-returns-3
-returns-3 c = good-near _ (omega arith) (c .before .before .before .if2 .left) (c .if3 .taken)
+returns-3 c = good-near _ (omega arith) (omega arith) (omega arith)
 
 exempt-requires : tie.Need-exempt-requires
 exempt-requires c κs = search needs
 
 returns-4 : tie.Need-returns-4
-returns-4 c = good-far _ (omega arith) (c .before .before .before .before .if2 .left) (c .before .if3 .left) _ (c .exempt .ensures)
+returns-4 c = good-far _ (omega arith) (omega arith) (omega arith) _ (c .exempt .ensures)
 
 pub good-spec : {M : Type 1} → statement M
 good-spec =

@@ -61,7 +61,7 @@ returns-3 c =
     let g = c .before .before .before .before .before .before .args .self in
     let v : isVersion (g .version) ≡ true = sym (c .before .before .before .before .before .is-version .ensures) ∙ not-false _ (c .before .before .before .before .if1 .left) in
     let s : isBlockSize (g .blocksize) ≡ true = sym (c .before .before .before .is-block-size .ensures) ∙ not-false _ (c .before .before .if2 .left) in
-    rw (v, s) (product64 (linearOf g 4294967295) (g .blocksize) (omega (arith, size-within (g .blocksize) s)))
+    rw (v, s) (product64 (linearOf g 4294967295) (g .blocksize) (omega (arith, size-within (g .blocksize) s)) _ (omega arith))
 
 pub is-ok-spec : {M : Type 1} → statement M
 is-ok-spec =
