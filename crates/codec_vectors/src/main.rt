@@ -1,9 +1,16 @@
-// RFC 3720's vectors of CRC32C (B.4), a block's check put into its own field and left out again, and lists that questions 19 to 21 accept and
-// refuse.
+// RFC 3720's vectors of CRC32C (B.4), a block's check put into its own field and left out again, a record of each kind written among other
+// bytes and read back, and lists that questions 19 to 21 accept and refuse.
 use codec::check::ListChecked;
 use codec::crc;
 use codec::endian;
+use codec::free_extent;
+use codec::free_extent::FreeExtent;
+use codec::refcount;
+use codec::refcount::Refcount;
+use codec::rmap;
+use codec::rmap::Rmap;
 use show::lines::list_number;
+use show::lines::words;
 
 // A name, and a number in decimal.
 fn number(name: &[u8], n: u64) {
@@ -33,11 +40,11 @@ fn answer(name: &[u8], r: ListChecked) {
 }
 
 fn rmaps(name: &[u8], list: &[u8]) {
-    answer(name, codec::rmap::check_order(list));
+    answer(name, rmap::check_order(list));
 }
 
 fn refcounts(name: &[u8], list: &[u8]) {
-    answer(name, codec::refcount::check_order(list));
+    answer(name, refcount::check_order(list));
 }
 
 fn checks() {
@@ -64,6 +71,70 @@ fn checks() {
     line(b"field", endian::be32(&pdu, 4));
     line(b"read", endian::le32(&pdu, 4));
     line(b"zeroed", crc::crc32c_with_zeroed_crc(&pdu, 4));
+}
+
+// A field in hexadecimal, of so many digits.
+fn field(n: u64, digits: usize) {
+    io::write_all(1, b" ");
+    io::print_hex(1, n, digits);
+}
+
+// A record four bytes into a buffer of ee, which stays as it was before it and behind it.
+fn rmap_record() {
+    let mut b = [0xEEu8; 32];
+    rmap::encode(
+        &mut b,
+        4,
+        Rmap {
+            startblock: 0x01020304,
+            blockcount: 0x05060708,
+            owner: 0x090A0B0C0D0E0F10,
+            offset: 0x1112131415161718,
+        },
+    );
+    words(&b);
+    let r = rmap::decode(&b, 4);
+    field(r.startblock as u64, 8);
+    field(r.blockcount as u64, 8);
+    field(r.owner, 16);
+    field(r.offset, 16);
+    newline();
+}
+
+fn refcount_record() {
+    let mut b = [0xEEu8; 20];
+    refcount::encode(
+        &mut b,
+        4,
+        Refcount {
+            startblock: 0x81020304,
+            blockcount: 0x05060708,
+            refcount: 0x090A0B0C,
+        },
+    );
+    words(&b);
+    let r = refcount::decode(&b, 4);
+    field(r.startblock as u64, 8);
+    field(r.blockcount as u64, 8);
+    field(r.refcount as u64, 8);
+    newline();
+}
+
+fn extent_record() {
+    let mut b = [0xEEu8; 16];
+    free_extent::encode(
+        &mut b,
+        4,
+        FreeExtent {
+            startblock: 0x01020304,
+            blockcount: 0x05060708,
+        },
+    );
+    words(&b);
+    let e = free_extent::decode(&b, 4);
+    field(e.startblock as u64, 8);
+    field(e.blockcount as u64, 8);
+    newline();
 }
 
 fn lists() {
@@ -115,5 +186,8 @@ fn lists() {
 
 fn main() {
     checks();
+    rmap_record();
+    refcount_record();
+    extent_record();
     lists();
 }

@@ -1,3 +1,3 @@
 // The text of the plan program: what its input asks for, and what it prints.
-pub mod line;
+mod line;
 pub mod text;

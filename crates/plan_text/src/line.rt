@@ -10,14 +10,14 @@ ghost use Rattle.plan_text.specs.Answer.{asked, number, named};
 use blocks::kind::TreeKind;
 
 // A plan that is asked for.
-pub struct Request {
+pub(crate) struct Request {
     pub kind: TreeKind,
     pub blocksize: u64,
     pub records: u64,
 }
 
 // What the input is: such a line, or any other input.
-pub enum Line {
+pub(crate) enum Line {
     Asked(Request),
     Other,
 }
@@ -142,7 +142,7 @@ fn line_of(s: &[u8]) -> Line
 }
 
 // What the input asks for.
-pub fn read(input: &[u8]) -> Line
+pub(crate) fn read(input: &[u8]) -> Line
     ensures { λ r. ⌜ asked r ≡ request (now (input .entry)) ⌝ }
 {
     let n = input.len();

@@ -9,7 +9,7 @@ use blocks::check::Field;
 use codec::check::ListRefusal;
 use codec::endian::be32;
 
-// Document 01's number of a refusal of a list.
+// The number of a refusal of a list, of docs/QUESTIONS.md.
 pub fn list_number(r: ListRefusal) -> u64
     ensures { λ n. ⌜ n ≡ listNumber r ⌝ }
 {

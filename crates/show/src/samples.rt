@@ -1,7 +1,7 @@
 // The blocks that the test programs make and damage.
 ghost use mathlib.Core.Path.{_≡_};
 ghost use lib.ListN.{set};
-ghost use Rattle.show.specs.Samples.{freshBetween, sealed, damaged};
+ghost use Rattle.show.specs.Samples.{sampleGeometry, freshBetween, sealed, damaged};
 use blocks::geometry::AgBlock;
 use blocks::geometry::Geometry;
 use blocks::geometry::NULL_AGBLOCK;
@@ -11,9 +11,9 @@ use blocks::stamp::stamp;
 use codec::crc::crc32c_with_zeroed_crc;
 use codec::endian::put_le32;
 
-// The group 3 of a volume.
+// The group 3 of a volume whose UUID is the bytes 16 to 31.
 pub fn geometry(version: u16, blocksize: u32, agblocks: u32) -> Geometry
-    ensures { λ g. ⌜ (g .version ≡ version) × (g .blocksize ≡ blocksize) × (g .agblocks ≡ agblocks) × (g .agno ≡ 3) ⌝ }
+    ensures { λ g. ⌜ g ≡ sampleGeometry version blocksize agblocks ⌝ }
 {
     Geometry {
         version,
@@ -24,7 +24,7 @@ pub fn geometry(version: u16, blocksize: u32, agblocks: u32) -> Geometry
     }
 }
 
-// A fresh block between two siblings, where the geometry is good and the header fits.
+// A fresh block between two siblings, where the geometry is good, the version has such a tree and the header fits.
 pub fn between(
     g: Geometry,
     kind: TreeKind,
@@ -41,6 +41,9 @@ pub fn between(
         return;
     }
     let version = g.version;
+    if !kind.is_in(version) {
+        return;
+    }
     let header = header_len(version);
     if b.len() < header {
         return;

@@ -5,7 +5,7 @@ ghost use Prim.Native.Nat.{_+_, _-_, _*_, _/_, _≤_, _<_};
 ghost use lib.ListN.{length, getD};
 ghost use Rattle.codec.specs.Bytes.{bytesAt, withBytes};
 ghost use Rattle.blocks.specs.Geometry.{geometryOk};
-ghost use Rattle.blocks.specs.Tree.{headerLen, recordLen, keysLen};
+ghost use Rattle.blocks.specs.Tree.{headerLen, hasTree, recordLen, keysLen};
 ghost use Rattle.trees.specs.Plan.{shares, startOf, firstOf};
 ghost use Rattle.trees.specs.Build.{keysOf, leafPart, leafParts, nodePart, blockBytes, blocksOf, output};
 ghost use Rattle.trees.specs.BuildCall.{keysUnder, layoutOf, builtBytes, checkList, roomOutcome, planThenRoom, buildOutcome};
@@ -53,7 +53,8 @@ pub enum Built {
 
 // A leaf with these records.
 fn write_leaf(g: Geometry, kind: TreeKind, number: u32, count: u16, records: &[u8], b: &mut [u8])
-    requires { ⌜ (geometryOk g ≡ true) × (length (now b) ≡ g .blocksize) × (headerLen (g .version) + length (now records) ≤ g .blocksize) ⌝ }
+    requires { ⌜ (geometryOk g ≡ true) × (hasTree kind (g .version) ≡ true) ⌝ }
+    requires { ⌜ (length (now b) ≡ g .blocksize) × (headerLen (g .version) + length (now records) ≤ g .blocksize) ⌝ }
     ensures { λ _. ⌜ now (b .exit) ≡ blockBytes (layoutOf g kind) 0 number (leafPart count (now (records .entry))) ⌝ }
 {
     let head = header_len(g.version);

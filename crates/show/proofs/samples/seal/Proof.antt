@@ -1,5 +1,9 @@
 -- `show::samples::seal` meets its contract.
 -- Assumes nothing.
+use Prim.Native.Nat.{ℕ}
+use mathlib.Core.Path.{ap, _∙_}
+use denote.Ref.{now}
+use Rattle.codec.specs.Bytes.{withBytes, leBytes}
 use borrow.Author.Needs.{needs}
 use borrow.Author.Tests.{le-leb, lt-leb}
 use Rattle.show.proofs.samples.seal.Statement.{statement}
@@ -18,7 +22,10 @@ same-length : tie.Need-same-length
 same-length c = search needs
 
 returns-2 : tie.Need-returns-2
-returns-2 c = rw (le-leb 56 _ (c .before .before .before .before .before .before .if1 .left)) (cc)
+returns-2 c =
+    rw (le-leb 56 _ (c .before .before .before .before .before .before .if1 .left))
+    (c .before .before .put-le32 .ensures
+    ∙ ap (λ (n : ℕ). withBytes (now (c .before .before .before .before .before .before .before .before .args .b)) 52 (leBytes 4 n)) (c .before .before .before .before .crc32c-with-zeroed-crc .ensures))
 
 pub seal-spec : {M : Type 1} → statement M
 seal-spec =

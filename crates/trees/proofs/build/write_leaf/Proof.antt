@@ -37,7 +37,7 @@ returns c =
     ∙ ap (stamped (a .g) (a .kind) (a .number) 0 (a .count) noSibling noSibling)
     (c .before .before .before .before .before .before .copy .ensures
     ∙ ap (λ (x : List ℕ). withBytes x (h .result) (now (a .records))) (c .before .before .before .before .before .before .before .before .before .before .clear8 .ensures)
-    ∙ leaf-fresh (now (a .b)) (now (a .records)) (a .g .blocksize) (headerLen (a .g .version)) (h .result) (st .pre .1) (h .ensures) (st .pre .2))
+    ∙ leaf-fresh (now (a .b)) (now (a .records)) (a .g .blocksize) (headerLen (a .g .version)) (h .result) (st .pre .1 .0) (h .ensures) (st .pre .1 .1))
 
 pub write-leaf-spec : {M : Type 1} → statement M
 write-leaf-spec =

@@ -99,9 +99,11 @@ write-leaf-requires : tie.Need-write-leaf-requires Inv-loop μ-loop
 write-leaf-requires c κs =
     let st = c .before .before .before .before .before .before .before .before .before .before .before in
     let r = round (c .before .before .before) in (
-      st .pre .given .ok,
-      simp (length-take, length-drop) (omega (arith, r .ends, c .before .before .before .before .before .loop .inv .written .long)),
-      simp (length-take, length-drop) (omega (arith, r .inside, r .room)),
+      (st .pre .given .ok, st .pre .given .tree),
+      (
+        simp (length-take, length-drop) (omega (arith, r .ends, c .before .before .before .before .before .loop .inv .written .long)),
+        simp (length-take, length-drop) (omega (arith, r .inside, r .room)),
+      ),
     )
 
 add-i : tie.Need-add-i Inv-loop μ-loop

@@ -78,7 +78,7 @@ cast-stamp-2 c = omega (arith, room-at (c .before .before .before .before .befor
 stamp-requires : tie.Need-stamp-requires
 stamp-requires c κs =
     let st = c .before .before .before .before .before .before .before .before .before .before .before .before .before .before .before .before .before .before .before .before .before in
-    (st .pre .given .ok, omega (arith, room-at (c .before .before .before .before .before .before .before .before .before .before .before .before .before) .header, st .pre .long))
+    (st .pre .given .ok, st .pre .given .tree, omega (arith, room-at (c .before .before .before .before .before .before .before .before .before .before .before .before .before) .header, st .pre .long))
 
 same-length : tie.Need-same-length
 same-length c = search needs
