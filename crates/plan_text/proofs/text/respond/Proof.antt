@@ -58,7 +58,7 @@ returns-3 c =
     put-long (now (a .out)) _ _ _ (omega arith) (c .before .before .put-line .ensures .0 .0 ∙ zero-add _ ∙ ap length (sym t)) (omega (arith, c .before .before .put-line .ensures .0 .1)) (c .before .before .put-line .ensures .1 ∙ ap (withBytes (now (a .out)) 0) (sym t))
 
 cast-t22 : tie.Need-cast-t22
-cast-t22 c = search needs
+cast-t22 c = omega arith
 
 put-plan-requires : tie.Need-put-plan-requires
 put-plan-requires c κs = search needs
