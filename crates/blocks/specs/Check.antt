@@ -61,5 +61,13 @@ headerSays g kind level numrecs len =
 abbrev pub headerOf : Geometry → TreeKind → ℕ → List ℕ → Header
 headerOf g kind level b = headerSays g kind level (beOf (bytesAt b 6 2)) (length b)
 
+-- what 9 and 10 come to, and what 5 to 10 do
+abbrev pub contentOutcome : Geometry → TreeKind → ℕ → List ℕ → Outcome Header
+contentOutcome g kind level b = answer (contentQuestions g kind level b) (done (headerOf g kind level b))
+
+abbrev pub identityOutcome : Geometry → TreeKind → ℕ → ℕ → List ℕ → Outcome Header
+identityOutcome g kind block level b = answer (identityQuestions g block b ++ contentQuestions g kind level b) (done (headerOf g kind level b))
+
+-- what 1 to 10 come to
 unfoldable pub checkBlock : Geometry → TreeKind → ℕ → ℕ → List ℕ → Outcome Header
 checkBlock g kind block level b = answer (blockQuestions g kind block level b) (done (headerOf g kind level b))

@@ -2,13 +2,11 @@
 ghost use mathlib.Core.Path.{_≡_};
 ghost use mathlib.Core.Bool.{true};
 ghost use Prim.Native.Nat.{_≤_};
-ghost use mathlib.Core.List.{_++_};
 ghost use lib.ListN.{length};
-ghost use Rattle.codec.specs.Question.{answer, done};
 ghost use Rattle.blocks.specs.Geometry.{geometryOk};
 ghost use Rattle.blocks.specs.Tree.{headerLen};
 ghost use Rattle.blocks.specs.Refusal.{checkedOutcome};
-ghost use Rattle.blocks.specs.Check.{identityQuestions, contentQuestions, headerOf, checkBlock};
+ghost use Rattle.blocks.specs.Check.{contentOutcome, identityOutcome, checkBlock};
 use crate::geometry::AgBlock;
 use crate::geometry::Geometry;
 use crate::kind::TreeKind;
@@ -63,7 +61,7 @@ pub enum Checked {
 // Questions 9 and 10.
 fn check_contents(g: Geometry, kind: TreeKind, level: u16, b: &[u8]) -> Checked
     requires { ⌜ headerLen (g .version) ≤ length (now b) ⌝ }
-    ensures { λ r. ⌜ checkedOutcome r ≡ answer (contentQuestions g kind level (now (b .entry))) (done (headerOf g kind level (now (b .entry)))) ⌝ }
+    ensures { λ r. ⌜ checkedOutcome r ≡ contentOutcome g kind level (now (b .entry)) ⌝ }
 {
     let version = g.version;
     let found = be16(b, 4);
@@ -93,7 +91,7 @@ fn check_contents(g: Geometry, kind: TreeKind, level: u16, b: &[u8]) -> Checked
 // Questions 5 to 8, on version 5, then 9 and 10.
 fn check_identity(g: Geometry, kind: TreeKind, block: AgBlock, level: u16, b: &[u8]) -> Checked
     requires { ⌜ (geometryOk g ≡ true) × (headerLen (g .version) ≤ length (now b)) × (56 ≤ length (now b)) ⌝ }
-    ensures { λ r. ⌜ checkedOutcome r ≡ answer (identityQuestions g (block .0) (now (b .entry)) ++ contentQuestions g kind level (now (b .entry))) (done (headerOf g kind level (now (b .entry)))) ⌝ }
+    ensures { λ r. ⌜ checkedOutcome r ≡ identityOutcome g kind (block .0) level (now (b .entry)) ⌝ }
 {
     let crc = crc32c_with_zeroed_crc(b, 52);
     let stored = le32(b, 52);

@@ -1,9 +1,9 @@
 -- Bytes and lists of records, whole: what bytes hold can be stored, and the bytes of records are bytes and whole records.
 -- Assumes nothing.
-use mathlib.Core.Path.{_≡_, refl, ap, _∙_}
+use mathlib.Core.Path.{_≡_, ap, _∙_}
 use mathlib.Core.Bool.{true}
 use mathlib.Core.List.{List, [], _∷_}
-use Prim.Native.Nat.{ℕ, _+_, _*_, _/_, _%_}
+use Prim.Native.Nat.{ℕ, _/_, _%_}
 use native.Mathlib.Nat.{div-mul-le-self, mul-mod-left}
 use native.Mathlib.Omega.{arith}
 use lib.ListN.{length}

@@ -1,11 +1,11 @@
 -- What an answer to questions in order means: a refusal names a question that failed with all before it held, and a
 -- result is given only where all held.
 use Prim.Native.Nat.{ℕ}
-use mathlib.Core.Path.{_≡_, refl, ap, sym, _∙_}
+use mathlib.Core.Path.{_≡_, refl, ap, sym}
 use mathlib.Core.Bool.{Bool, true, false, cond}
 use mathlib.Core.List.{List, [], _∷_, _++_}
 use native.Mathlib.Omega.{arith}
-use Rattle.codec.specs.Question.{Values, Outcome, done, refused, Question, answer}
+use Rattle.codec.specs.Question.{Values, done, refused, Question, answer}
 
 abbrev pub AllHold : List Question → Type 0
 AllHold [] = Unit {0}

@@ -1,10 +1,10 @@
 -- Laws of a list with bytes put in: it is bytes, what lies after them is as it was, and a second write at the same place takes the first away.
 -- Assumes nothing.
-use mathlib.Core.Path.{_≡_, refl, sym, ap, ap₂, _∙_}
+use mathlib.Core.Path.{_≡_, sym, ap, ap₂, _∙_}
 use mathlib.Core.List.{List, [], _∷_, _++_, append-assoc, reverse, reverse-append}
 use Prim.Native.Nat.{ℕ, zero, suc, _+_, _≤_, _<_}
 use native.Mathlib.Omega.{arith}
-use lib.ListN.{length, getD, take, drop, length-drop}
+use lib.ListN.{length, take, drop, length-drop}
 use lib.Seq.{length-take-le, take-at, take-all, drop-at}
 use Rattle.codec.specs.Bytes.{IsBytes, bytesAt, withBytes, beBytes, leBytes}
 use Rattle.codec.proofs.Parts.{length-withBytes, bytesAt-after}

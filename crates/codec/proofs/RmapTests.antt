@@ -4,10 +4,10 @@ use Prim.Native.Nat.{ℕ, _+_, _/_, _%_, _^_, _≤_, _<_}
 use native.Mathlib.Nat.{div-div-eq-div-mul}
 use mathlib.Core.Path.{_≡_, refl, ap, sym, _∙_}
 use mathlib.Core.Bool.{Bool, true, false, not, _||_}
-use lib.Dec.{leb, ltb, eqb}
+use lib.Dec.{ltb, eqb}
 use borrow.Author.Tests.{lt-ltb, le-leb, lt-leb, eq-eqb, ne-eqb}
 use Rattle.codec.specs.declared.rmap.Rmap.{Rmap}
-use Rattle.codec.specs.Rmaps.{end, fileOffset, flags, reserved, mapping, exempt, keyOffset, before, good, follows}
+use Rattle.codec.specs.Rmaps.{end, fileOffset, reserved, mapping, exempt, keyOffset, before, good, follows}
 
 module _ (r s : Rmap) where
   pub before-start : (r .startblock ≡ s .startblock → ⊥) → ltb (r .startblock) (s .startblock) ≡ before r s

@@ -3,7 +3,7 @@ ghost use mathlib.Core.Path.{_≡_};
 ghost use Prim.Native.Nat.{_+_, _≤_};
 ghost use lib.ListN.{length};
 ghost use Rattle.codec.specs.Bytes.{bytesAt, withBytes};
-ghost use Rattle.codec.specs.Records.{Kind, freeExtents};
+ghost use Rattle.codec.specs.Records.{freeExtents};
 use crate::endian::be32;
 use crate::endian::put_be32;
 

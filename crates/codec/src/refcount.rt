@@ -3,7 +3,7 @@ ghost use mathlib.Core.Path.{_≡_};
 ghost use Prim.Native.Nat.{_+_, _≤_};
 ghost use lib.ListN.{length};
 ghost use Rattle.codec.specs.Bytes.{bytesAt, withBytes};
-ghost use Rattle.codec.specs.Records.{Kind, recordsOf, refcounts};
+ghost use Rattle.codec.specs.Records.{recordsOf, refcounts};
 ghost use Rattle.codec.specs.Refcounts.{good, follows, accepted, checkOrder};
 ghost use Rattle.codec.specs.ListRefusal.{listOutcome};
 use crate::check::ListChecked;

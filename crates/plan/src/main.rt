@@ -4,7 +4,7 @@ fn main() {
     // A longer input is cut here and prints the same: no line of 48 bytes or more asks for a plan (`CutIsExact` of plan_text's specs/Text.antt).
     let mut input = [0u8; 64];
     let n = io::read_full(0, &mut input);
-    let mut out = [0u8; 640];
+    let mut out = [0u8; plan_text::text::ROOM];
     let k = plan_text::text::respond(&input[..n], &mut out);
     io::write_all(1, &out[..k]);
 }

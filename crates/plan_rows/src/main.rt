@@ -63,6 +63,8 @@ fn plans() {
     row(b"rmap 04096 1000");
     row(b"rmap 000000000000004096 000000000000001000\n");
     row(b"refcount 65536 999999999999999999");
+    // the longest line, of 47 bytes
+    row(b"refcount 000000000000004096 000000000000000337\n");
     // nine levels
     row(b"rmap 512 1900000000");
 }
@@ -97,6 +99,9 @@ fn others() {
     row(b"rmap 4096 1000.");
     row(b"Rmap 4096 1000");
     row(b"rmaps 4096 1000");
+    // one byte more, and more than the program reads
+    row(b"refcount 000000000000004096 0000000000000000337\n");
+    row(b"rmap 000000000000000000000000000004096 00000000000000000000000000001000\n");
     // 19 digits, in either number
     row(b"rmap 4096 0000000000000001000");
     row(b"rmap 0000000000000004096 1000");

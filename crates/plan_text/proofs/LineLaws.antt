@@ -6,9 +6,9 @@ use native.Mathlib.Numerals.{add-one}
 use native.Mathlib.Omega.{arith}
 use mathlib.Core.Path.{_≡_, refl, ap, sym, _∙_}
 use mathlib.Core.Bool.{Bool, true, false, cond, _&&_}
-use mathlib.Core.List.{List, [], _∷_, _++_}
+use mathlib.Core.List.{List, [], _∷_}
 use mathlib.Core.Option.{Option, none, some}
-use lib.Dec.{eqb, leb}
+use lib.Dec.{eqb}
 use lib.ListN.{length, getD, take, drop, drop-of-length-le, length-drop}
 use lib.Seq.{drop-cons, take-all}
 use borrow.Author.Tests.{ne-eqb, le-leb, lt-leb, lt-ltb, le-ltb}
@@ -16,7 +16,7 @@ use Rattle.blocks.specs.Check.{same}
 use Rattle.blocks.specs.declared.kind.TreeKind.{TreeKind}
 use Rattle.blocks.specs.declared.kind.TreeKind.the-variants.{Rmap, Refcount}
 use Rattle.plan_text.specs.declared.line.Request.{Request}
-use Rattle.plan_text.specs.Line.{chomp, spaceAt, isDigit, allDigits, isNumber, valueFrom, value, rmapName, refcountName, kindOf, requestOf, lineOf, hasSpace, word, rest}
+use Rattle.plan_text.specs.Line.{chomp, spaceAt, isDigit, allDigits, isNumber, valueFrom, value, rmapName, refcountName, kindOf, requestOf, lineOf, word, rest}
 
 -- ---- the first space
 

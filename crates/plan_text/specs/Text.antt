@@ -5,8 +5,9 @@ use mathlib.Core.Path.{_≡_}
 use mathlib.Core.Bool.{cond}
 use mathlib.Core.List.{List, [], _∷_, _++_}
 use mathlib.Core.Option.{Option, none, some}
-use lib.Dec.{ltb}
-use lib.ListN.{replicate, take}
+use lib.Dec.{leb, ltb}
+use lib.ListN.{length, replicate, take}
+use Rattle.codec.specs.Bytes.{withBytes}
 use Rattle.codec.specs.Question.{Outcome, done, refused}
 use Rattle.blocks.specs.declared.geometry.Geometry.{Geometry}
 use Rattle.trees.specs.Plan.{sum}
@@ -75,6 +76,13 @@ reply none = otherLine
 -- what the program prints for its input
 abbrev pub answerText : List ℕ → List ℕ
 answerText input = reply (request input)
+
+-- the same put at the start of a buffer: how long it is, and what the buffer then holds. One of less than 640 bytes stays as it was.
+abbrev pub answerLength : List ℕ → List ℕ → ℕ
+answerLength input out = cond (leb 640 (length out)) (length (answerText input)) 0
+
+abbrev pub answered : List ℕ → List ℕ → List ℕ
+answered input out = cond (leb 640 (length out)) (withBytes out 0 (answerText input)) out
 
 -- the first n bytes of an input, 48 or more, print what the whole of it prints: a program that reads no further loses nothing. Proved in
 -- proofs/LongLines.antt.

@@ -2,10 +2,10 @@
 ghost use mathlib.Core.Path.{_≡_};
 ghost use mathlib.Core.Bool.{cond};
 ghost use mathlib.Core.Option.{none, some};
-ghost use Prim.Native.Nat.{_+_, _*_, _^_, _≤_, _<_};
+ghost use Prim.Native.Nat.{_+_, _*_, _<_};
 ghost use lib.ListN.{length};
 ghost use Rattle.blocks.specs.Check.{same};
-ghost use Rattle.plan_text.specs.Line.{chomp, spaceAt, kindOf, isNumber, value, requestOf, lineOf, request};
+ghost use Rattle.plan_text.specs.Line.{spaceAt, kindOf, isNumber, value, requestOf, lineOf, request};
 ghost use Rattle.plan_text.specs.Answer.{asked, number, named};
 use blocks::kind::TreeKind;
 

@@ -3,11 +3,9 @@ ghost use mathlib.Core.Path.{_≡_};
 ghost use Prim.Native.Nat.{_+_, _≤_, _<_};
 ghost use lib.ListN.{length};
 ghost use Rattle.codec.specs.Bytes.{withBytes};
-ghost use lib.Dec.{leb};
-ghost use mathlib.Core.Bool.{cond};
 ghost use lib.ListN.{take};
 ghost use Rattle.trees.specs.PlanAnswer.{planOutcome};
-ghost use Rattle.plan_text.specs.Text.{decimal, numberLine, levelLine, levelLines, planLines, planText, programGeometry, answerText};
+ghost use Rattle.plan_text.specs.Text.{decimal, numberLine, levelLine, levelLines, planText, answerLength, answered};
 use crate::line::Line;
 use crate::line::read;
 use blocks::geometry::Geometry;
@@ -94,8 +92,8 @@ fn put_plan(out: &mut [u8], g: Geometry, kind: TreeKind, records: u64) -> usize
 
 // What the program prints for its input, put at the start of `out`, and how long it is. Nothing is put where `out` has less than `ROOM`.
 pub fn respond(input: &[u8], out: &mut [u8]) -> usize
-    ensures { λ r. ⌜ (r ≡ cond (leb 640 (length (now (out .entry)))) (length (answerText (now (input .entry)))) 0) × (r ≤ 640) ⌝ }
-    ensures { λ _. ⌜ now (out .exit) ≡ cond (leb 640 (length (now (out .entry)))) (withBytes (now (out .entry)) 0 (answerText (now (input .entry)))) (now (out .entry)) ⌝ }
+    ensures { λ r. ⌜ (r ≡ answerLength (now (input .entry)) (now (out .entry))) × (r ≤ 640) ⌝ }
+    ensures { λ _. ⌜ now (out .exit) ≡ answered (now (input .entry)) (now (out .entry)) ⌝ }
 {
     if out.len() < ROOM {
         return 0;

@@ -8,7 +8,6 @@ use denote.Ref.{now}
 use Rattle.blocks.specs.Check.{same}
 use Rattle.blocks.proofs.Laws.{same-next, same-not, same-end}
 use Rattle.plan_text.proofs.LineLaws.{same-long}
-use borrow.Author.Needs.{needs}
 use Rattle.plan_text.proofs.line.is_word.Statement.{statement}
 use Rattle.plan_text.proofs.line.is_word.Tie as tie
 

@@ -7,7 +7,6 @@ use lib.ListN.{length, drop}
 use denote.Ref.{now}
 use Rattle.plan_text.specs.Line.{allDigits, valueFrom, value}
 use Rattle.plan_text.proofs.LineLaws.{refused-number, accepted-number, number-short, number-long, number-digits, digit-low, digit-high, digit-next, digits-end, digits-more, digits-small, value-next, value-end}
-use borrow.Author.Needs.{needs}
 use Rattle.plan_text.proofs.line.number_of.Statement.{statement}
 use Rattle.plan_text.proofs.line.number_of.Tie as tie
 

@@ -8,7 +8,6 @@ use lib.ListN.{length, drop}
 use denote.Ref.{now}
 use Rattle.plan_text.specs.Line.{spaceAt}
 use Rattle.plan_text.proofs.LineLaws.{space-here, space-later, space-none}
-use borrow.Author.Needs.{needs}
 use Rattle.plan_text.proofs.line.space_at.Statement.{statement}
 use Rattle.plan_text.proofs.line.space_at.Tie as tie
 

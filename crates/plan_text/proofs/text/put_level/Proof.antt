@@ -1,13 +1,8 @@
 -- `plan_text::text::put_level` meets its contract.
 -- Assumes nothing.
-use Prim.Native.Nat.{_+_, _-_, _*_, _≤_, _<_, _^_}
-use mathlib.Core.Path.{_≡_, refl, ap, sym, _∙_}
-use mathlib.Core.List.{_∷_}
+use Prim.Native.Nat.{_-_}
 use native.Mathlib.Omega.{arith}
-use lib.ListN.{length, take, getD, length-set}
 use denote.Ref.{now}
-use Rattle.codec.specs.Bytes.{withBytes}
-use Rattle.plan_text.specs.Text.{decimal, blocksWord, numberLine, levelLine, levelLines}
 use Rattle.plan_text.proofs.TextLaws.{digits-room, level-room, length-level, level-done}
 use borrow.Author.Needs.{needs}
 use Rattle.plan_text.proofs.text.put_level.Statement.{statement}

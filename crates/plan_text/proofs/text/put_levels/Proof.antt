@@ -1,13 +1,12 @@
 -- `plan_text::text::put_levels` meets its contract. The invariant: the lines of the levels passed stand at the front.
 -- Assumes nothing.
-use Prim.Native.Nat.{ℕ, _+_, _-_, _*_, _≤_, _<_, _^_}
-use mathlib.Core.Path.{_≡_, refl, ap, sym, _∙_}
-use mathlib.Core.List.{_∷_}
+use Prim.Native.Nat.{ℕ, _-_, _*_, _≤_, _<_}
+use mathlib.Core.Path.{_≡_, refl, ap, _∙_}
 use native.Mathlib.Omega.{arith}
-use lib.ListN.{length, take, getD, length-set}
+use lib.ListN.{length, take}
 use denote.Ref.{now}
 use Rattle.codec.specs.Bytes.{withBytes}
-use Rattle.plan_text.specs.Text.{decimal, blocksWord, numberLine, levelLine, levelLines}
+use Rattle.plan_text.specs.Text.{levelLines}
 use Rattle.plan_text.proofs.TextLaws.{length-more, levels-step, levels-none}
 use borrow.Author.Needs.{needs}
 use Rattle.plan_text.proofs.text.put_levels.Statement.{statement}

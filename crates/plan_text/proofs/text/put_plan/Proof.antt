@@ -1,7 +1,7 @@
 -- `plan_text::text::put_plan` meets its contract.
 -- Assumes nothing.
-use Prim.Native.Nat.{ℕ, _+_, _≤_}
-use mathlib.Core.Path.{_≡_, refl, ap, sym, _∙_}
+use Prim.Native.Nat.{ℕ}
+use mathlib.Core.Path.{_≡_, ap, sym, _∙_}
 use mathlib.Core.List.{List}
 use native.Mathlib.Nat.{zero-add}
 use native.Mathlib.Omega.{arith}
@@ -9,7 +9,7 @@ use lib.ListN.{length, take}
 use denote.Ref.{now}
 use Rattle.codec.specs.Bytes.{withBytes}
 use Rattle.trees.specs.Plan.{sum}
-use Rattle.plan_text.specs.Text.{blocksWord, numberLine, planLines}
+use Rattle.plan_text.specs.Text.{blocksWord, numberLine}
 use Rattle.plan_text.proofs.TextLaws.{text-few, text-geometry, text-levels, text-plan, text-total, length-plan, plan-done}
 use borrow.Author.Needs.{needs}
 use Rattle.plan_text.proofs.text.put_plan.Statement.{statement}

@@ -1,15 +1,12 @@
 -- `plan_text::text::respond` meets its contract.
 -- Assumes nothing.
-use Prim.Native.Nat.{ℕ, _+_, _≤_}
-use mathlib.Core.Path.{_≡_, refl, ap, sym, _∙_}
-use mathlib.Core.List.{List}
+use mathlib.Core.Path.{refl, ap, sym, _∙_}
 use native.Mathlib.Nat.{zero-add}
 use native.Mathlib.Omega.{arith}
-use lib.ListN.{length, take}
+use lib.ListN.{length}
 use denote.Ref.{now}
 use Rattle.codec.specs.Bytes.{withBytes}
 use Rattle.plan_text.specs.Answer.{asked}
-use Rattle.plan_text.specs.Text.{answerText}
 use Rattle.plan_text.proofs.TextLaws.{answer-other, answer-plan, answer-large, put-short, put-long}
 use borrow.Author.Needs.{needs}
 use Rattle.plan_text.proofs.text.respond.Statement.{statement}
