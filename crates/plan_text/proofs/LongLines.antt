@@ -90,10 +90,10 @@ cut-is-exact n l h = ap reply (cut-input n l h)
 
 -- ---- the longest line, and one digit more
 
--- `refcount 000000000000004096 000000000000000337` and a newline
 abbrev zeros : ℕ → List ℕ
 zeros n = replicate n 48
 
+-- `refcount 000000000000004096 000000000000000337` and a newline
 abbrev longest : List ℕ
 longest = refcountName ++ ((32 ∷ zeros 14) ++ ((52 ∷ 48 ∷ 57 ∷ 54 ∷ 32 ∷ zeros 15) ++ (51 ∷ 51 ∷ 55 ∷ 10 ∷ [])))
 
@@ -101,7 +101,7 @@ pub longest-asks : (length longest ≡ 47) × (request longest ≡ some (record 
 unfolding chomp spaceAt kindOf allDigits isNumber valueFrom requestOf lineOf
 longest-asks = (refl, refl)
 
--- the same with one zero more in front of 337 has 48 bytes, and what it holds, cut anywhere from there on, prints `refused`
+-- with one zero more in front of 337 it has 48 bytes
 abbrev too-long : List ℕ
 too-long = refcountName ++ ((32 ∷ zeros 14) ++ ((52 ∷ 48 ∷ 57 ∷ 54 ∷ 32 ∷ zeros 16) ++ (51 ∷ 51 ∷ 55 ∷ 10 ∷ [])))
 

@@ -76,7 +76,7 @@ lineOf l = cond (hasSpace l && hasSpace (rest l)) (requestOf (kindOf (word l)) (
 abbrev pub request : List ℕ → Option Request
 request input = lineOf (chomp input)
 
--- the longest line that asks for a plan has 47 bytes: a name of 8, two numbers of 18 digits, two spaces and a newline. Proved in
--- proofs/LongLines.antt.
+-- an input of 48 bytes or more asks for nothing: the longest line that asks for a plan has a name of 8 bytes, two numbers of 18 digits, two
+-- spaces and a newline. proofs/LongLines.antt proves it, with that line and one byte more as instances.
 abbrev pub LongAsksNothing : Type 0
 LongAsksNothing = (input : List ℕ) → 48 ≤ length input → request input ≡ none

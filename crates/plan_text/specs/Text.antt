@@ -84,7 +84,7 @@ answerLength input out = cond (leb 640 (length out)) (length (answerText input))
 abbrev pub answered : List ℕ → List ℕ → List ℕ
 answered input out = cond (leb 640 (length out)) (withBytes out 0 (answerText input)) out
 
--- the first n bytes of an input, 48 or more, print what the whole of it prints: a program that reads no further loses nothing. Proved in
--- proofs/LongLines.antt.
+-- the first n bytes of an input, 48 or more, print what the whole of it prints: a program that reads no further loses nothing.
+-- proofs/LongLines.antt proves it.
 abbrev pub CutIsExact : Type 0
 CutIsExact = (n : ℕ) (input : List ℕ) → 48 ≤ n → answerText (take n input) ≡ answerText input
