@@ -36,8 +36,8 @@ uint32_t kf_check_refcounts(const uint8_t *list, size_t list_len);
 uint32_t kf_check_block(KF_GEOMETRY, uint32_t kind, uint32_t block, uint16_t level,
                         const uint8_t *bytes, size_t bytes_len, uint64_t said[4]);
 
-/* The blocks of each level of a tree of so many records, leaves first (1, 16). Nine places are written; those past the last level, and all
- * of a refused plan, are 0.
+/* The blocks of each level of a tree of so many records, leaves first (1, 16). Nine places are written, 0 past the last level; a refusal
+ * leaves all nine as they were.
  * said: levels, blocks of all levels, 0, 0; refused: zeros. */
 uint32_t kf_plan(KF_GEOMETRY, uint32_t kind, uint64_t records, uint64_t levels[9], uint64_t said[4]);
 

@@ -282,7 +282,8 @@ pub fn plan(g: &Geometry, kind: Kind, records: u64) -> Result<Plan, Refusal> {
     let mut said = [0; 4];
     let mut blocks = [0; 9];
     let (high, low) = g.uuid_halves();
-    // SAFETY: nine and four numbers, which the call writes.
+    // SAFETY: nine and four numbers. The call writes the four, and the nine
+    // unless it refuses.
     let n = unsafe {
         raw::kf_plan(
             g.version,

@@ -1,7 +1,8 @@
 //! The functions of the static library as C sees them; `kf.h` says the same,
 //! and `docs/QUESTIONS.md` of the repository what their answers mean.
 //!
-//! A slice passes as a pointer and a length. `said` is written whole.
+//! A slice passes as a pointer and a length. `said` is written whole; the
+//! `levels` of a plan are written whole, or by a refusal not at all.
 
 #[allow(clippy::too_many_arguments)]
 extern "C" {

@@ -22,9 +22,9 @@
 //! Then the inputs, then what each output holds afterwards, all of it: outputs
 //! are lent filled with the byte 0xA5. The second input of a build is its
 //! block numbers. What a plan and a walk leave in the nine places and in the
-//! block list stands where an input would: the first of a plan, the second of
-//! a walk. After the inputs of 13 come its blocks, each as its place in the
-//! image and its bytes.
+//! block list, lent filled so too, stands where an input would: the first of
+//! a plan, the second of a walk. After the inputs of 13 come its blocks, each
+//! as its place in the image and its bytes.
 
 use crate::blocks;
 use crate::edits::{due, expect};
@@ -302,9 +302,13 @@ fn block_cases(r: &mut Random, cases: &mut Cases) {
         let o = paper::plan(&g, tree, n);
         let said = expect(&o, |v| [v.len() as u64, v.iter().sum(), 0, 0]);
         if cases.wants(5, said.0, 12) {
-            let mut levels = o.accepted().unwrap_or_default();
-            levels.resize(9, 0);
-            let levels: Vec<u8> = levels.iter().flat_map(|n| n.to_be_bytes()).collect();
+            let levels = match o.accepted() {
+                Some(mut v) => {
+                    v.resize(9, 0);
+                    v.iter().flat_map(|n| n.to_be_bytes()).collect()
+                }
+                None => vec![FILL; 9 * 8],
+            };
             let mut c = Case::new(5, said).geometry(&g, tree);
             c.head[21..23].copy_from_slice(&halves(n));
             cases.add(c.given(&levels, &[]));

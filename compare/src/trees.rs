@@ -15,7 +15,8 @@ use oracle::{Geometry, Tree};
 fn one_plan(g: &Geometry, tree: Tree, records: u64, tally: &mut Tally) {
     let input = || format!("{g:?} {tree:?} records {records}");
     let want = paper::plan(g, tree, records);
-    let mut levels = [0x5A5A_5A5A; 9];
+    let lent: [u64; 9] = std::array::from_fn(|i| 0x5A5A_5A5A + i as u64);
+    let mut levels = lent;
     let got = library::plan(&library::g(g), library::kind(tree), records, &mut levels);
     same(
         "plan",
@@ -23,8 +24,11 @@ fn one_plan(g: &Geometry, tree: Tree, records: u64, tally: &mut Tally) {
         expect(&want, |v| [v.len() as u64, v.iter().sum(), 0, 0]),
         &input,
     );
-    let mut due = want.accepted().unwrap_or_default();
-    due.resize(9, 0);
+    // Zeros past the last level; a refusal leaves what was lent.
+    let due = want.accepted().map_or(lent.to_vec(), |mut v| {
+        v.resize(9, 0);
+        v
+    });
     if levels[..] != due[..] {
         let (l, o) = (format!("{levels:?}"), format!("{due:?}"));
         differ("plan", "levels", &l, &o, &input());

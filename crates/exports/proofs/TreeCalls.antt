@@ -1,22 +1,23 @@
 -- What a plan and a walk say, from what they come to.
 -- Assumes nothing.
-use Prim.Native.Nat.{ℕ}
+use Prim.Native.Nat.{ℕ, _<_}
+use native.Mathlib.Omega.{arith}
 use mathlib.Core.Path.{_≡_, refl, sym, ap, ap₂, _∙_}
 use mathlib.Core.List.{List, [], _∷_}
 use lib.ListN.{length, take}
-use Rattle.codec.specs.Question.{Outcome, none, done, refused}
+use Rattle.codec.specs.Question.{Values, none, Outcome, done, refused}
 use Rattle.blocks.specs.declared.geometry.Geometry.{Geometry}
 use Rattle.blocks.specs.declared.kind.TreeKind.{TreeKind}
 use Rattle.blocks.specs.Tree.{recordLen}
 use Rattle.trees.specs.declared.plan.PlanAnswer.{PlanAnswer}
-use Rattle.trees.specs.declared.plan.PlanAnswer.the-variants.{Levels}
+use Rattle.trees.specs.declared.plan.PlanAnswer.the-variants.{Levels, BadGeometry, TooManyLevels}
 use Rattle.trees.specs.declared.plan.Planned.{Planned}
 use Rattle.trees.specs.declared.walk.Walked.{Walked}
 use Rattle.trees.specs.Plan.{sum}
-use Rattle.trees.specs.PlanAnswer.{PlanIs, planOutcome, answerOutcome, levelsSaid, levelsIn, placesOf}
+use Rattle.trees.specs.PlanAnswer.{PlanIs, planOutcome, answerOutcome, levelsSaid, levelsIn}
 use Rattle.trees.specs.WalkCall.{walkOf, lent, report}
 use Rattle.trees.specs.WalkAnswer.{WalkIs, walkedReport}
-use Rattle.exports.specs.Interface.{Says, planFigures}
+use Rattle.exports.specs.Interface.{numberOf, Says, planFigures, placesAfter}
 use Rattle.exports.specs.WalkFigures.{Reports, Leaves}
 
 module _ (o : Outcome (List ℕ)) (p : Planned) (is : PlanIs o p) where
@@ -35,11 +36,29 @@ module _ (o : Outcome (List ℕ)) (p : Planned) (is : PlanIs o p) where
       let h : o ≡ refused n none = sym (is .outcome) ∙ ap (λ (x : PlanAnswer). answerOutcome x (p .blocks)) e ∙ r in
       rw h (record { number = refl; figures = refl })
 
+-- a plan that is refused has a number
+refused-some : (a : PlanAnswer) (blocks : List ℕ) (n : ℕ) (x : Values) → answerOutcome a blocks ≡ refused n x → 0 < n
+refused-some (Levels k) blocks n x e = let z : _≡_ {A = ℕ} 0 1 = cc in absurd (omega arith)
+refused-some BadGeometry blocks n x e = let h : 1 ≡ n = ap numberOf e in omega arith
+refused-some TooManyLevels blocks n x e = let h : 16 ≡ n = ap numberOf e in omega arith
+
+-- the places of an accepted plan, and those of a refused one
+places-stored : (o : Outcome (List ℕ)) (p : Planned) → PlanIs o p → (l : List ℕ) → numberOf o ≡ 0 → p .blocks ≡ placesAfter o l
+places-stored (done ls) p is l e = is .places
+places-stored (refused n x) p is l e = absurd (omega (arith, refused-some (p .answer) (p .blocks) n x (is .outcome)))
+
+places-kept : (o : Outcome (List ℕ)) (l : List ℕ) → (numberOf o ≡ 0 → ⊥) → l ≡ placesAfter o l
+places-kept (done ls) l h = absurd (h refl)
+places-kept (refused n x) l h = refl
+
 -- the call of a plan, on the geometry and kind that the numbers stand for
-pub plan-said : {g g′ : Geometry} {k k′ : TreeKind} (n : ℕ) {p : Planned} {r : ℕ} {said : List ℕ} → g ≡ g′ → k ≡ k′ → PlanIs (planOutcome g k n) p
-    → ((o : Outcome (List ℕ)) → PlanIs o p → Says planFigures o r said)
-    → Says planFigures (planOutcome g′ k′ n) r said × (p .blocks ≡ placesOf (levelsIn (planOutcome g′ k′ n)))
-plan-said n e f is says = rw (← e, ← f) (says _ is, is .places)
+module _ {g g′ : Geometry} {k k′ : TreeKind} (n : ℕ) {p : Planned} {r : ℕ} {said : List ℕ} (levels : List ℕ) (e : g ≡ g′) (f : k ≡ k′)
+    (is : PlanIs (planOutcome g k n) p) (says : (o : Outcome (List ℕ)) → PlanIs o p → Says planFigures o r said) where
+  pub plan-done : r ≡ 0 → (levels′ : List ℕ) → levels′ ≡ p .blocks → Says planFigures (planOutcome g′ k′ n) r said × (levels′ ≡ placesAfter (planOutcome g′ k′ n) levels)
+  plan-done z levels′ q = rw (← e, ← f) (says _ is, q ∙ places-stored (planOutcome g k n) p is levels (sym (says _ is .number) ∙ z))
+
+  pub plan-refused : (r ≡ 0 → ⊥) → (levels′ : List ℕ) → levels′ ≡ levels → Says planFigures (planOutcome g′ k′ n) r said × (levels′ ≡ placesAfter (planOutcome g′ k′ n) levels)
+  plan-refused z levels′ q = rw (← e, ← f) (says _ is, q ∙ places-kept (planOutcome g k n) levels (λ h. z (says _ is .number ∙ h)))
 
 -- the call of a walk
 pub walk-said : {g g′ : Geometry} {k k′ : TreeKind} (image : List ℕ) (root levels : ℕ)

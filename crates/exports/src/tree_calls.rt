@@ -4,9 +4,9 @@ ghost use lib.ListN.{length};
 ghost use Rattle.codec.specs.Question.{mapOutcome};
 ghost use Rattle.blocks.specs.Tree.{recordLen};
 ghost use Rattle.trees.specs.BuildCall.{buildOutcome, outAfter};
-ghost use Rattle.trees.specs.PlanAnswer.{planOutcome, levelsIn, placesOf};
+ghost use Rattle.trees.specs.PlanAnswer.{planOutcome};
 ghost use Rattle.trees.specs.WalkCall.{walkOf, lent, report};
-ghost use Rattle.exports.specs.Interface.{geometryOf, kindOf, Says, planFigures, buildFigures};
+ghost use Rattle.exports.specs.Interface.{geometryOf, kindOf, Says, planFigures, placesAfter, buildFigures};
 ghost use Rattle.exports.specs.WalkFigures.{Reports, Leaves};
 use crate::answers::built_answer;
 use crate::answers::planned_answer;
@@ -18,8 +18,8 @@ use trees::build::build;
 use trees::plan::plan;
 use trees::walk::walk;
 
-// The blocks of each level of a tree of so many records, leaves first, and zeros after them: questions 1 and 16. The figures are the levels
-// and the blocks of all of them.
+// The blocks of each level of a tree of so many records, leaves first, and zeros after them: questions 1 and 16. A refusal leaves `levels` as
+// they were. The figures are the levels and the blocks of all of them.
 #[no_mangle]
 pub extern "C" fn kf_plan(
     version: u16,
@@ -34,17 +34,20 @@ pub extern "C" fn kf_plan(
     said: &mut [u64; 4],
 ) -> u32
     ensures { λ r. ⌜ Says planFigures (planOutcome (geometryOf version blocksize agblocks agno «uuid_high» «uuid_low») (kindOf kind) records) r (now (said .exit)) ⌝ }
-    ensures { λ _. ⌜ now (levels .exit) ≡ placesOf (levelsIn (planOutcome (geometryOf version blocksize agblocks agno «uuid_high» «uuid_low») (kindOf kind) records)) ⌝ }
+    ensures { λ _. ⌜ now (levels .exit) ≡ placesAfter (planOutcome (geometryOf version blocksize agblocks agno «uuid_high» «uuid_low») (kindOf kind) records) (now (levels .entry)) ⌝ }
 {
     let g = geometry(version, blocksize, agblocks, agno, uuid_high, uuid_low);
     let tree = tree_kind(kind);
     let planned = plan(g, tree, records);
     let blocks = planned.blocks;
-    *levels = blocks;
     let answer = planned_answer(planned);
+    let number = answer.number;
+    if number == 0 {
+        *levels = blocks;
+    }
     let figures = answer.figures;
     *said = figures;
-    answer.number
+    number
 }
 
 // The blocks of a fresh tree, one after another, root last, where `numbers` are their numbers in the group: questions 1, 3, 19, 20 or 21, 16,

@@ -123,7 +123,7 @@ fn levels_as_due(due: &[u8], levels: [u64; 9]) -> bool {
 }
 
 fn on_plan(head: &[u8], due: &[u8]) -> bool {
-    let mut levels = [0xA5u64; 9];
+    let mut levels = [0xA5A5A5A5A5A5A5A5u64; 9];
     let mut said = [0xA5u64; 4];
     let answer = kf_plan(
         narrow(head, 10),

@@ -2,7 +2,9 @@
 -- Assumes nothing.
 use borrow.Author.Needs.{needs}
 use mathlib.Core.Path.{_≡_}
-use Rattle.exports.proofs.TreeCalls.{plan-said}
+use mathlib.Core.Logic.{⊎-elim}
+use denote.Ref.{now}
+use Rattle.exports.proofs.TreeCalls.{plan-done, plan-refused}
 use Rattle.exports.proofs.tree_calls.kf_plan.Statement.{statement}
 use Rattle.exports.proofs.tree_calls.kf_plan.Tie as tie
 
@@ -20,7 +22,13 @@ planned-answer-requires c κs = search needs
 
 returns : tie.Need-returns
 returns c =
-    plan-said (c .before .before .before .before .before .before .args .records) (c .before .before .before .before .before .geometry .ensures) (c .before .before .before .before .tree-kind .ensures) (c .before .before .before .plan .ensures) (c .before .planned-answer .ensures)
+    let q = c .before .before in
+    let p = q .before .before in
+    let a = p .before .before .before .args in
+    ⊎-elim
+    (λ w. plan-done (a .records) (now (a .levels)) (p .before .before .geometry .ensures) (p .before .tree-kind .ensures) (p .plan .ensures) (q .planned-answer .ensures) (w .0 .taken) _ (w .1))
+    (λ w. plan-refused (a .records) (now (a .levels)) (p .before .before .geometry .ensures) (p .before .tree-kind .ensures) (p .plan .ensures) (q .planned-answer .ensures) (w .0 .left) _ (w .1))
+    (c .before .if1 .came)
 
 pub kf-plan-spec : {M : Type 1} → statement M
 kf-plan-spec =
