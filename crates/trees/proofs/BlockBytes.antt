@@ -78,7 +78,7 @@ Held t image [] = Unit {0}
 Held t image (b ∷ bs) =
     ((b .number + 1) * t .shape .size ≤ length image) × (blockIn (t .shape .size) image (b .number) ≡ b .bytes) × Held t image bs
 
-zero-bytes : (n : ℕ) → IsBytes (replicate n 0)
+pub zero-bytes : (n : ℕ) → IsBytes (replicate n 0)
 zero-bytes zero i = omega arith
 zero-bytes (suc n) zero = omega arith
 zero-bytes (suc n) (suc i) = zero-bytes n i

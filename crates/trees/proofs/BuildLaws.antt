@@ -145,13 +145,20 @@ module _ (g : Geometry) (kind : TreeKind) (list numbers out : List ℕ) (q : Giv
     unfolding planThenRoom
     has-16 r out′ b = rw (means .0) b
 
-  -- any refusal of the plan is 16, for 1 holds
-  pub not-16 : (a : PlanAnswer) (n : ℕ) → p .answer ≡ a → answerOutcome a (p .blocks) ≡ refused n none → Builds (planThenRoom g kind list numbers (length out)) (Refused why.Levels) out out
+  -- 1 holds, and so the plan does not refuse by it
+  pub plan-not-1 : p .answer ≡ plans.BadGeometry → ⊥
+  plan-not-1 e =
+      let h : refused 1 none ≡ answer (ask 16 (leb (length ls) 9) ∷ []) (done ls) = ap (λ (x : PlanAnswer). answerOutcome x (p .blocks)) (sym e) ∙ said in
+      split (leb (length ls) 9)
+      (λ t. let same : refused 1 none ≡ done ls = h ∙ rw t refl in let z : _≡_ {A = ℕ} 0 1 = cc in omega arith)
+      (λ t. let same : _≡_ {A = Outcome (List ℕ)} (refused 1 none) (refused 16 none) = h ∙ rw t refl in let z : _≡_ {A = ℕ} 1 16 = cc in omega arith)
+
+  pub not-16 : p .answer ≡ plans.TooManyLevels → Builds (planThenRoom g kind list numbers (length out)) (Refused why.Levels) out out
   unfolding planThenRoom
-  not-16 a n e r =
+  not-16 e =
       split (leb (length ls) 9)
       (λ t.
-      let same : refused n none ≡ done ls = sym r ∙ ap (λ (x : PlanAnswer). answerOutcome x (p .blocks)) (sym e) ∙ said ∙ rw t refl in
+      let same : refused 16 none ≡ done ls = ap (λ (x : PlanAnswer). answerOutcome x (p .blocks)) (sym e) ∙ said ∙ rw t refl in
       let z : _≡_ {A = ℕ} 0 1 = cc in absurd (omega arith))
       (λ t. record { outcome = rw t refl; output = rw t refl })
 

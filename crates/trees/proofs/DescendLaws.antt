@@ -1,20 +1,16 @@
 -- Laws of the walk over the stack: a turn of its loop, and its first and last.
 -- Assumes nothing.
-use Prim.Native.Nat.{ℕ, zero, suc, _+_, _-_, _*_, _^_, _≤_, _<_}
+use Prim.Native.Nat.{ℕ, _+_, _-_, _*_, _^_, _≤_, _<_}
 use native.Mathlib.Nat.{mul-le-mul, mul-comm, mul-assoc}
 use native.Mathlib.Omega.{arith}
-use mathlib.Core.Path.{_≡_, refl, sym, ap, _∙_, subst}
-use mathlib.Core.List.{List, [], _∷_, _++_}
-use lib.ListN.{length, take, getD, set, length-set}
-use Rattle.codec.specs.Bytes.{withBytes}
-use Rattle.codec.specs.Question.{Values, Outcome, done, refused}
+use mathlib.Core.Path.{_≡_, refl, sym, _∙_, subst}
+use mathlib.Core.List.{List, [], _∷_}
+use lib.ListN.{length, getD, set, length-set}
+use Rattle.codec.specs.Question.{done}
 use Rattle.trees.specs.declared.walk.Count.{Count}
-use Rattle.trees.specs.declared.walk.Walked.{Walked}
-use Rattle.trees.specs.declared.walk.Walked.the-variants.{Read, Refused}
 use Rattle.trees.specs.Walk.{Visit, visitOf, Look, bad, good, Trace, run, fit, Shape, perNode, lookIn}
-use Rattle.trees.specs.WalkState.{dueOf, stepOf, Fitting, Wrote}
-use Rattle.trees.specs.WalkCall.{Report, walkIn}
-use Rattle.trees.specs.WalkAnswer.{walkedReport, left}
+use Rattle.trees.specs.WalkState.{dueOf, stepOf, Wrote}
+use Rattle.trees.specs.WalkCall.{walkIn}
 use Rattle.trees.proofs.StackLaws.{Stacked, due-next, due-length, due-push, stacked-push, stacked-room}
 use Rattle.trees.proofs.WalkLaws.{Walking, walking-first, walking-next, step-good}
 use Rattle.trees.proofs.RunLaws.{Falls}
@@ -83,8 +79,3 @@ walking-begin s image root levels limit places w stack scratch out p q deep noti
 pub due-empty : (stack : List ℕ) (k : ℕ) → k ≡ 0 → dueOf stack k ≡ []
 unfolding dueOf
 due-empty stack k e = rw e
-
--- a refused walk says nothing of what is left
-pub left-refused : (r : Walked) (n : ℕ) (x : Values) (p : ℕ) (t : Trace) (scratch out out′ : List ℕ) → walkedReport r ≡ record { outcome = refused n x; passed = p } → left r t scratch out out′
-left-refused (Read v m b) n x p t scratch out out′ e = let z : _≡_ {A = ℕ} 0 1 = cc (ap (λ (q : Report). q .outcome) e) in absurd (omega arith)
-left-refused (Refused r v) n x p t scratch out out′ e = tt

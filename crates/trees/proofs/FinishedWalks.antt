@@ -1,4 +1,4 @@
--- A finished walk is the walk of a tree that stands in the image.
+-- `EveryWalk`: a finished walk is the walk of a tree that stands in the image.
 -- Assumes nothing.
 use Prim.Native.Nat.{ℕ, _-_, max}
 use native.Mathlib.Omega.{arith}
@@ -14,7 +14,7 @@ use Rattle.blocks.specs.declared.kind.TreeKind.{TreeKind}
 use Rattle.trees.specs.Walk.{Visit, visitOf, Look, Trace, finished, spent, failed, met, run, fit, visits, records, ending, lookIn}
 use Rattle.trees.specs.WalkCall.{Counts, reportOf, report, Lent, walkIn, walkQuestions, walkOf}
 use Rattle.trees.specs.Shapes.{shapeOf}
-use Rattle.trees.specs.Forest.{blocksIn, bytesIn, through, ReadTree}
+use Rattle.trees.specs.Forest.{blocksIn, bytesIn, through, ReadTree, EveryWalk}
 use Rattle.trees.proofs.ForestLaws.{Finished, forest-of, walk-whole, through-visits, through-records}
 
 -- a walk that finished with lists of so many places and bytes is the walk without them
@@ -32,7 +32,7 @@ fit-finished p r (met v b t) e = go (ltb 0 p && leb (length b) r) (fit-finished 
     go false rec f = let z : _≡_ {A = ℕ} 0 1 = cc in absurd (omega arith)
 
 -- over any way to look at a block
-pub run-reads : (look : Visit → Look) (limit places room : ℕ) (root : Visit) (t : Trace)
+run-reads : (look : Visit → Look) (limit places room : ℕ) (root : Visit) (t : Trace)
     → fit places room (run look limit (root ∷ [])) ≡ t → ending t ≡ finished → ReadTree look root t
 unfolding visits records
 run-reads look limit places room root t e h =
@@ -58,20 +58,17 @@ counts-end w v b spent c e = let z : _≡_ {A = ℕ} 0 1 = cc in absurd (omega a
 counts-end w v b (failed n x) c e = let z : _≡_ {A = ℕ} 0 1 = cc in absurd (omega arith)
 counts-end w v b (met u bytes t) c e = counts-end w v b t c e
 
-module _ (g : Geometry) (kind : TreeKind) (image : List ℕ) (root levels : ℕ) (m : Lent) where
-  pub walk-reads : (t : Trace) → walkOf g kind image root levels m ≡ done t → ending t ≡ finished
-      → ReadTree (lookIn (shapeOf g kind) image) (visitOf root (levels - 1)) t
-  unfolding walkIn
-  walk-reads t e h =
-      run-reads (lookIn (shapeOf g kind) image) (max (g .agblocks) 64) (m .blocks) (m .bytes) (visitOf root (levels - 1)) t
-      (done-means (walkQuestions g kind levels m) (walkIn (shapeOf g kind) image root levels (max (g .agblocks) 64) (m .blocks) (m .bytes)) t e .1) h
+counts-finish : (w : ℕ) (c : Counts) (o : Outcome Trace) → report w o .outcome ≡ done c → (t : Trace) × (o ≡ done t) × (ending t ≡ finished)
+counts-finish w c (done t) e = (t, refl, counts-end w (length (visits t)) (length (records t)) t c e)
+counts-finish w c (refused n x) e = let z : _≡_ {A = ℕ} 0 1 = cc in absurd (omega arith)
 
-  -- so it is wherever the walk answers with counts
-  pub counts-read : (w : ℕ) (c : Counts) → report w (walkOf g kind image root levels m) .outcome ≡ done c
-      → (t : Trace) × (walkOf g kind image root levels m ≡ done t) × ReadTree (lookIn (shapeOf g kind) image) (visitOf root (levels - 1)) t
-  counts-read w c e = go (walkOf g kind image root levels m) refl e
-    where
-      go : (o : Outcome Trace) → walkOf g kind image root levels m ≡ o → report w o .outcome ≡ done c
-          → (t : Trace) × (walkOf g kind image root levels m ≡ done t) × ReadTree (lookIn (shapeOf g kind) image) (visitOf root (levels - 1)) t
-      go (done t) q e = (t, q, walk-reads t q (counts-end w (length (visits t)) (length (records t)) t c e))
-      go (refused n x) q e = let z : _≡_ {A = ℕ} 0 1 = cc in absurd (omega arith)
+walk-reads : (g : Geometry) (kind : TreeKind) (image : List ℕ) (root levels : ℕ) (m : Lent) (t : Trace) → walkOf g kind image root levels m ≡ done t → ending t ≡ finished
+    → ReadTree (lookIn (shapeOf g kind) image) (visitOf root (levels - 1)) t
+unfolding walkIn
+walk-reads g kind image root levels m t e h =
+    run-reads (lookIn (shapeOf g kind) image) (max (g .agblocks) 64) (m .blocks) (m .bytes) (visitOf root (levels - 1)) t
+    (done-means (walkQuestions g kind levels m) (walkIn (shapeOf g kind) image root levels (max (g .agblocks) 64) (m .blocks) (m .bytes)) t e .1) h
+
+pub every-walk : EveryWalk
+every-walk g kind image root levels m =
+    record { reads = walk-reads g kind image root levels m; finishes = λ w c e. counts-finish w c (walkOf g kind image root levels m) e }

@@ -1,4 +1,5 @@
--- The high key of a good record is that of its last block; and `highest` is the greatest of the high keys, the last of equals.
+-- `EveryHighKey` and `EveryHighest`: the high key of a good record is that of its last block, and `highest` is the greatest of the high keys, the
+-- last of equals.
 -- Assumes nothing.
 use Prim.Native.Nat.{ℕ, _+_, _-_, _/_, _%_, _^_, _≤_, _<_}
 use native.Mathlib.Omega.{arith}
@@ -8,11 +9,12 @@ use mathlib.Core.Logic.{_⊎_, inl, inr}
 use mathlib.Core.List.{List, [], _∷_}
 use lib.Dec.{ltb, eqb}
 use borrow.Author.Tests.{ltb-true, ltb-false, leb-true, leb-false, eqb-true, eqb-false, le-ltb}
-use Rattle.codec.specs.Rmaps.{flags, exempt, good}
+use Rattle.codec.specs.Accepted.{inOrder}
+use Rattle.codec.specs.Rmaps.{flags, reserved, mapping, exempt, good, keyOffset, before, follows, accepted}
 use Rattle.codec.specs.declared.rmap.Rmap.{Rmap}
 use Rattle.trees.specs.declared.keys.RmapKey.{RmapKey}
 use Rattle.trees.specs.Keys.{highKey, keyBelow, greater, greatest, highest}
-use Rattle.trees.specs.HighKeys.{LastBlock, NoneAbove, AllBelow, IsHighest}
+use Rattle.trees.specs.HighKeys.{NoneAbove, AllBelow, IsHighest, EveryHighKey, EveryHighest}
 use Rattle.trees.proofs.Sharing.{split}
 use Rattle.trees.proofs.KeyLaws.{good-means}
 
@@ -22,9 +24,9 @@ use Rattle.trees.proofs.KeyLaws.{good-means}
 same-flags : (o n : ℕ) → 0 < n → o % 2 ^ 54 + n ≤ 2 ^ 54 → ((o + (n - 1)) / 2 ^ 54 ≡ o / 2 ^ 54) × ((o + (n - 1)) % 2 ^ 54 + 1 ≡ o % 2 ^ 54 + n)
 same-flags o n h k = (omega arith, omega arith)
 
-pub high-last : (r : Rmap) → good r ≡ true → LastBlock r (highKey r)
+pub every-high-key : EveryHighKey
 unfolding highKey
-high-last r e =
+every-high-key r e =
     let g = good-means r e in
     record {
       start = omega (arith, g .0);
@@ -162,6 +164,29 @@ found k (r ∷ rs) =
     (λ e. subst (Found k (r ∷ rs)) (greatest-kept k r rs e) (found-kept k r rs (greatest k rs) e (found k rs)))
     (λ e. subst (Found k (r ∷ rs)) (greatest-new k r rs e) (inr (found-first r rs g f, le-trans k (highKey r) g (not-below k (highKey r) e) (found-above r rs g f))))
 
--- of a child's records, of which there is one at least
-pub highest-is : (r : Rmap) (rs : List Rmap) → IsHighest (r ∷ rs) (highest (r ∷ rs))
-highest-is r rs = found-first r rs (greatest (highKey r) rs) (found (highKey r) rs)
+pub every-highest : EveryHighest
+every-highest r rs = found-first r rs (greatest (highKey r) rs) (found (highKey r) rs)
+
+-- ---- an accepted list with equals
+
+-- 0/4 of owner 7 at file offset 0, 2/2 of the same at 2, unwritten (bit 61), and 2/1 of owner 9 at 0
+abbrev pub written : Rmap
+written = record { startblock = 0; blockcount = 4; owner = 7; offset = 0 }
+
+abbrev pub unwritten : Rmap
+unwritten = record { startblock = 2; blockcount = 2; owner = 7; offset = 2 ^ 61 + 2 }
+
+abbrev pub other : Rmap
+other = record { startblock = 2; blockcount = 1; owner = 9; offset = 0 }
+
+-- the first two have high keys that are equal in the order and differ in their flags; the child's is the second one's
+pub record Equals : Type 0 where
+  pub list-accepted : accepted (written ∷ unwritten ∷ other ∷ []) ≡ true
+  pub not-below-it : keyBelow (highKey written) (highKey unwritten) ≡ false
+  pub not-above-it : keyBelow (highKey unwritten) (highKey written) ≡ false
+  pub flagged : highKey unwritten .offset ≡ highKey written .offset + 2 ^ 61
+  pub last-taken : highest (written ∷ unwritten ∷ other ∷ []) ≡ highKey unwritten
+
+pub equals : Equals
+unfolding highKey keyBelow greater greatest inOrder reserved mapping exempt good keyOffset before follows
+equals = record { list-accepted = refl; not-below-it = refl; not-above-it = refl; flagged = refl; last-taken = refl }

@@ -32,3 +32,4 @@ pub mod BuildLaws
 pub mod WalkReasons
 pub mod FinishedWalks
 pub mod HighestKeys
+pub mod SmallTree

@@ -1,9 +1,14 @@
--- Trees side by side, as a finished walk reads them.
+-- Trees side by side, as a finished walk reads them. The statement is `EveryWalk`, at the end; proofs/FinishedWalks.antt proves it.
 -- Assumes nothing.
-use Prim.Native.Nat.{ℕ, zero, suc, _+_}
+use Prim.Native.Nat.{ℕ, zero, suc, _+_, _-_}
 use mathlib.Core.Path.{_≡_}
 use mathlib.Core.List.{List, [], _∷_, _++_}
-use Rattle.trees.specs.Walk.{Visit, Look, good, Trace, met, visits, records}
+use Rattle.codec.specs.Question.{Outcome, done}
+use Rattle.blocks.specs.declared.geometry.Geometry.{Geometry}
+use Rattle.blocks.specs.declared.kind.TreeKind.{TreeKind}
+use Rattle.trees.specs.Walk.{Visit, visitOf, Look, good, Trace, finished, met, visits, records, ending, lookIn}
+use Rattle.trees.specs.WalkCall.{Counts, Lent, walkOf, report}
+use Rattle.trees.specs.Shapes.{shapeOf}
 
 -- trees side by side: a root with its records' bytes, the trees below it, and the trees to its right
 pub data Forest : Type 0 where
@@ -50,11 +55,26 @@ unfoldable pub sizeOf : Forest → ℕ
 sizeOf empty = 0
 sizeOf (tree v b below right) = suc (sizeOf below + sizeOf right)
 
--- a walk from a root read one tree, which stands: it visited each of its blocks, one before those below it, and read its records from left to
--- right. proofs/FinishedWalks.antt shows it of every finished walk.
+-- ---- the claim
+
+-- a walk from a root read one tree, which stands: its visits are the tree's blocks, each before those below it and these from left to right, and
+-- its records are the tree's
 pub record ReadTree (look : Visit → Look) (root : Visit) (t : Trace) : Type 0 where
   pub forest : Forest
   pub rooted : roots forest ≡ root ∷ []
   pub stands : Stands look forest
   pub visited : visits t ≡ blocksIn forest
   pub in-order : records t ≡ bytesIn forest
+
+-- "The walk goes left to right, depth first", of a call that comes to o
+pub record DepthFirst (look : Visit → Look) (root : Visit) (o : Outcome Trace) : Type 0 where
+  -- a walk that finished read one tree
+  pub reads : (t : Trace) → o ≡ done t → ending t ≡ finished → ReadTree look root t
+  -- a walk that answers with counts finished
+  pub finishes : (w : ℕ) (c : Counts) → report w o .outcome ≡ done c → (t : Trace) × (o ≡ done t) × (ending t ≡ finished)
+
+-- every call of the walk goes so
+abbrev pub EveryWalk : Type 0
+EveryWalk =
+    (g : Geometry) (kind : TreeKind) (image : List ℕ) (root levels : ℕ) (m : Lent)
+    → DepthFirst (lookIn (shapeOf g kind) image) (visitOf root (levels - 1)) (walkOf g kind image root levels m)

@@ -1,14 +1,13 @@
--- What the high keys of a child mean: the high key of a record is that of its last block, and the high key of a child is the greatest of those
--- under it, the last of equals. proofs/HighestKeys.antt shows it of good records.
+-- What the high keys of a child mean. The statements are `EveryHighKey` and `EveryHighest`; proofs/HighestKeys.antt proves them.
 -- Assumes nothing.
 use Prim.Native.Nat.{_+_, _/_, _%_, _^_}
 use mathlib.Core.Path.{_≡_}
 use mathlib.Core.Bool.{true, false}
 use mathlib.Core.List.{List, [], _∷_, _++_}
-use Rattle.codec.specs.Rmaps.{end, fileOffset, flags, exempt}
+use Rattle.codec.specs.Rmaps.{end, fileOffset, flags, exempt, good}
 use Rattle.codec.specs.declared.rmap.Rmap.{Rmap}
 use Rattle.trees.specs.declared.keys.RmapKey.{RmapKey}
-use Rattle.trees.specs.Keys.{highKey, keyBelow}
+use Rattle.trees.specs.Keys.{highKey, keyBelow, highest}
 
 -- k is the key of the last block of r: same owner, same flags, and the file offset of that block where there is one
 pub record LastBlock (r : Rmap) (k : RmapKey) : Type 0 where
@@ -17,6 +16,11 @@ pub record LastBlock (r : Rmap) (k : RmapKey) : Type 0 where
   pub flags : k .offset / 2 ^ 54 ≡ flags r
   pub file : exempt r ≡ false → k .offset % 2 ^ 54 + 1 ≡ fileOffset r + r .blockcount
   pub no-file : exempt r ≡ true → k .offset ≡ r .offset
+
+-- "A high key adds count − 1 to the start, and to the file offset unless the owner is reserved or bit 62 is set": so it is the key of the
+-- record's last block, and the sum does not reach the flags
+abbrev pub EveryHighKey : Type 0
+EveryHighKey = (r : Rmap) → good r ≡ true → LastBlock r (highKey r)
 
 -- no record has a high key above k
 abbrev pub NoneAbove : RmapKey → List Rmap → Type 0
@@ -37,3 +41,8 @@ pub record IsHighest (rs : List Rmap) (k : RmapKey) : Type 0 where
   pub key : k ≡ highKey top
   pub none-above : NoneAbove k rs
   pub later-below : AllBelow k later
+
+-- "the greatest high key under the child, by start, owner as unsigned, file offset; the last of equals": of the records under a child, of which
+-- there is one at least
+abbrev pub EveryHighest : Type 0
+EveryHighest = (r : Rmap) (rs : List Rmap) → IsHighest (r ∷ rs) (highest (r ∷ rs))

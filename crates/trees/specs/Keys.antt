@@ -29,7 +29,7 @@ keyBytes k = fieldBytes keyWidths (k .start ∷ k .owner ∷ k .offset ∷ [])
 abbrev pub lowKey : Rmap → RmapKey
 lowKey r = record { start = r .startblock; owner = r .owner; offset = r .offset }
 
--- count - 1 is added to the start, and to the file offset unless the owner is reserved or bit 62 is set
+-- count - 1 is added to the start, and to the file offset unless the owner is reserved or bit 62 is set (`EveryHighKey` of specs/HighKeys.antt)
 unfoldable pub highKey : Rmap → RmapKey
 highKey r =
     record {
@@ -58,7 +58,7 @@ greatest k (r ∷ rs) = greatest (greater k (highKey r)) rs
 abbrev pub noKey : RmapKey
 noKey = record { start = 0; owner = 0; offset = 0 }
 
--- the first record's key, and the greatest high key (`IsHighest` of specs/HighKeys.antt)
+-- the first record's key, and the greatest high key (`EveryHighest` of specs/HighKeys.antt)
 abbrev pub lowest : List Rmap → RmapKey
 lowest [] = noKey
 lowest (r ∷ rs) = lowKey r

@@ -44,11 +44,6 @@ abbrev pub walkedReport : Walked → Report
 walkedReport (Read visits records bytes) = record { outcome = done (record { visits = visits; records = records; bytes = bytes }); passed = visits }
 walkedReport (Refused r visits) = record { outcome = refused (walkNumber r) (walkValues r); passed = visits }
 
--- a visit that was refused ends the walk, after so many visits
-abbrev pub stopReport : Outcome Count → ℕ → Report
-stopReport (refused n x) visits = record { outcome = refused n x; passed = visits }
-stopReport (done c) visits = record { outcome = done (record { visits = visits; records = 0; bytes = c .bytes }); passed = visits }
-
 -- what a walk that has read its last block leaves in the level scratch and the record list
 abbrev pub left : Walked → Trace → List ℕ → List ℕ → List ℕ → Type 0
 left (Read v n b) t scratch out out′ = (seenOf (take v scratch) ≡ visits t) × (out′ ≡ withBytes out 0 (records t))

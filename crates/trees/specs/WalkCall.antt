@@ -63,7 +63,7 @@ walkQuestions g kind levels m =
     ∷ ask 12 (leb (2 * levels * perNode (shapeOf g kind)) (m .stack) && leb (m .blocks) (m .scratch))
     ∷ []
 
--- 1, 11 and 12, then the walk, of at most max(agblocks, 64) visits
+-- 1, 11 and 12, then the walk, of at most max(agblocks, 64) visits. It goes left to right, depth first: `EveryWalk` of specs/Forest.antt.
 abbrev pub walkOf : Geometry → TreeKind → List ℕ → ℕ → ℕ → Lent → Outcome Trace
 walkOf g kind image root levels m =
     answer (walkQuestions g kind levels m)

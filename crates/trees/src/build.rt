@@ -341,7 +341,7 @@ fn build_levels(
     Built::Done(count * size)
 }
 
-// Question 16, then 17 and 18 and the tree.
+// Question 16, then 17 and 18 and the tree. The plan does not refuse the geometry: 1 was asked before.
 fn build_planned(g: Geometry, kind: TreeKind, list: &[u8], numbers: &[u32], out: &mut [u8]) -> Built
     requires { ⌜ Given g kind (now list) ⌝ }
     ensures { λ r. ⌜ Builds (planThenRoom g kind (now (list .entry)) (now (numbers .entry)) (length (now (out .entry)))) r (now (out .entry)) (now (out .exit)) ⌝ }
@@ -361,7 +361,7 @@ fn build_planned(g: Geometry, kind: TreeKind, list: &[u8], numbers: &[u32], out:
             numbers,
             out,
         ),
-        PlanAnswer::BadGeometry => Built::Refused(BuildRefusal::Levels),
+        PlanAnswer::BadGeometry => Built::Refused(BuildRefusal::BadGeometry),
         PlanAnswer::TooManyLevels => Built::Refused(BuildRefusal::Levels),
     }
 }

@@ -1,4 +1,4 @@
-// The walk of a tree over lent memory, left to right and depth first.
+// The walk of a tree over lent memory, left to right and depth first (`EveryWalk` of specs/Forest.antt).
 ghost use mathlib.Core.Path.{_≡_};
 ghost use mathlib.Core.Bool.{true};
 ghost use mathlib.Core.List.{_++_, _∷_, []};
@@ -13,7 +13,7 @@ ghost use Rattle.trees.specs.Walk.{visitOf, good, pointers, byLevel, per
 ghost use Rattle.trees.specs.Shapes.{shapeOf};
 ghost use Rattle.trees.specs.WalkState.{zeros, dueOf, seenOf, levelIn, stepOf, onward, pending, Fitting, Wrote, Begun};
 ghost use Rattle.trees.specs.WalkCall.{walkIn, walkOf, lent, report};
-ghost use Rattle.trees.specs.WalkAnswer.{stepOutcome, walkedReport, stopReport, left, WalkIs};
+ghost use Rattle.trees.specs.WalkAnswer.{stepOutcome, walkedReport, left, WalkIs};
 use crate::memory::clear8;
 use crate::memory::clear32;
 use crate::memory::clear64;
@@ -148,7 +148,7 @@ fn enter_node(
     })
 }
 
-// What a visit comes to where the block check refused: its refusal, unchanged.
+// The block check's answer as a visit has it: its refusal, unchanged, which ends the walk; a good block leaves the counts as they are.
 fn hand_up(answer: Checked, c: Count) -> Step
     ensures { λ r. ⌜ stepOutcome r ≡ mapOutcome (λ h. c) (checkedOutcome answer) ⌝ }
 {
@@ -207,20 +207,6 @@ fn visit(
     )
 }
 
-// A refused visit ends the walk.
-fn stopped(step: Step, visits: usize) -> Walked
-    ensures { λ r. ⌜ walkedReport r ≡ stopReport (stepOutcome step) visits ⌝ }
-{
-    match step {
-        Step::Stop(refusal) => Walked::Refused { refusal, visits },
-        Step::Next(c) => Walked::Read {
-            visits,
-            records: 0,
-            bytes: c.bytes,
-        },
-    }
-}
-
 // Visits every block that is due, from the root on; 13 before each.
 fn descend(
     g: Geometry,
@@ -274,10 +260,17 @@ fn descend(
             places,
             at,
         );
-        let Step::Next(next) = step else {
-            return stopped(step, visits + 1);
-        };
-        c = next;
+        match step {
+            Step::Stop(refusal) => {
+                return Walked::Refused {
+                    refusal,
+                    visits: visits + 1,
+                };
+            }
+            Step::Next(next) => {
+                c = next;
+            }
+        }
     }
     let bytes = c.bytes;
     Walked::Read {
@@ -399,9 +392,10 @@ fn limit_of(agblocks: u32) -> usize
     agblocks as usize
 }
 
-// Walks a tree of a group from its root: its records in order into `records`, its blocks by level, leaves first, into `blocks`. `image` is the
-// group, block n at n times the block size. Questions 1, 11 and 12; then, at each block, 13, 14, 3 to 10 and 15. `stack` and `scratch` are
-// zero afterwards, and so are both lists where 13 or a later question refused; 1, 11 and 12 touch nothing.
+// Walks a tree of a group from its root, left to right and depth first (`EveryWalk` of specs/Forest.antt): its records in order into `records`,
+// its blocks by level, leaves first, into `blocks`. `image` is the group, block n at n times the block size. Questions 1, 11 and 12; then, at each
+// block, 13, 14, 3 to 10 and 15. `stack` and `scratch` are zero afterwards, and so are both lists where 13 or a later question refused; 1, 11 and
+// 12 touch nothing.
 pub fn walk(
     g: Geometry,
     kind: TreeKind,

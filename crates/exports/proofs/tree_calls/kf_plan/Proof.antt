@@ -1,7 +1,6 @@
 -- `exports::tree_calls::kf_plan` meets its contract.
 -- Assumes nothing.
 use borrow.Author.Needs.{needs}
-use mathlib.Core.Path.{_≡_}
 use mathlib.Core.Logic.{⊎-elim}
 use denote.Ref.{now}
 use Rattle.exports.proofs.TreeCalls.{plan-done, plan-refused}

@@ -1,11 +1,9 @@
 -- `trees::build::build_planned` meets its contract.
 -- Assumes nothing.
 use native.Mathlib.Omega.{arith}
-use mathlib.Core.Path.{refl}
 use denote.Ref.{now}
-use Rattle.trees.specs.declared.plan.PlanAnswer.the-variants as plans
 use Rattle.trees.proofs.TreeKinds.{record-some}
-use Rattle.trees.proofs.BuildLaws.{levels-in, plan-given, has-16, not-16}
+use Rattle.trees.proofs.BuildLaws.{levels-in, plan-given, has-16, plan-not-1, not-16}
 use borrow.Author.Needs.{needs}
 use Rattle.trees.proofs.build.build_planned.Statement.{statement}
 use Rattle.trees.proofs.build.build_planned.Tie as tie
@@ -59,13 +57,13 @@ returns-2 : tie.Need-returns-2
 returns-2 c =
     let st = c .before .before .before .before .before .before .before .before in
     let a = st .args in
-    not-16 (a .g) (a .kind) (now (a .list)) (now (a .numbers)) (now (a .out)) (st .pre) (c .before .before .before .before .record-len .result) (c .before .before .before .before .record-len .ensures) (c .before .before .before .plan .result) (c .before .before .before .plan .ensures) plans.BadGeometry 1 (c .enum-told .given .1) refl
+    absurd (plan-not-1 (a .g) (a .kind) (now (a .list)) (now (a .numbers)) (now (a .out)) (st .pre) (c .before .before .before .before .record-len .result) (c .before .before .before .before .record-len .ensures) (c .before .before .before .plan .result) (c .before .before .before .plan .ensures) (c .enum-told .given .1))
 
 returns-3 : tie.Need-returns-3
 returns-3 c =
     let st = c .before .before .before .before .before .before .before .before in
     let a = st .args in
-    not-16 (a .g) (a .kind) (now (a .list)) (now (a .numbers)) (now (a .out)) (st .pre) (c .before .before .before .before .record-len .result) (c .before .before .before .before .record-len .ensures) (c .before .before .before .plan .result) (c .before .before .before .plan .ensures) plans.TooManyLevels 16 (c .enum-told2 .given .1) refl
+    not-16 (a .g) (a .kind) (now (a .list)) (now (a .numbers)) (now (a .out)) (st .pre) (c .before .before .before .before .record-len .result) (c .before .before .before .before .record-len .ensures) (c .before .before .before .plan .result) (c .before .before .before .plan .ensures) (c .enum-told2 .given .1)
 
 pub build-planned-spec : {M : Type 1} → statement M
 build-planned-spec =

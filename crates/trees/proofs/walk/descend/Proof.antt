@@ -1,27 +1,22 @@
 use borrow.Author.Needs.{needs}
 use native.Mathlib.Omega.{arith}
-use native.Mathlib.Nat.{mul-le-mul}
-use mathlib.Core.Path.{_≡_, refl, sym, ap, ap₂, _∙_, subst}
-use mathlib.Core.List.{List, _∷_, _++_}
+use mathlib.Core.Path.{_≡_, refl, sym, ap, _∙_, subst}
 use Prim.Native.Nat.{ℕ, _+_, _-_, _*_, _<_, _≤_, _^_}
-use lib.ListN.{length, set, getD, take, drop, length-set}
+use lib.ListN.{length, getD, length-set}
 use denote.Ref.{now}
-use Rattle.codec.specs.Question.{Outcome, done, refused}
-use Rattle.blocks.specs.Geometry.{geometryOk}
+use Rattle.codec.specs.Question.{Outcome, done}
 use Rattle.blocks.specs.Tree.{recordLen}
 use Rattle.blocks.proofs.Laws.{bounded}
 use Rattle.trees.specs.declared.walk.Count.{Count}
-use Rattle.trees.specs.declared.walk.Step.{Step}
-use Rattle.trees.specs.declared.walk.Walked.{Walked}
-use Rattle.trees.specs.Walk.{Visit, visitOf, Look, Shape, perNode, lookIn}
+use Rattle.trees.specs.Walk.{visitOf, perNode, lookIn}
 use Rattle.trees.specs.Shapes.{shapeOf}
 use Rattle.trees.specs.WalkState.{dueOf, stepOf, Fitting, Wrote}
-use Rattle.trees.specs.WalkCall.{Report, walkIn}
-use Rattle.trees.specs.WalkAnswer.{stepOutcome, walkedReport, stopReport, left}
+use Rattle.trees.specs.WalkCall.{walkIn}
+use Rattle.trees.specs.WalkAnswer.{stepOutcome}
 use Rattle.trees.proofs.StackLaws.{Stacked, due-next}
 use Rattle.trees.proofs.LookLaws.{node-some, look-falls}
 use Rattle.trees.proofs.WalkLaws.{Walking, walking-spent, walking-stop, walking-ended, walking-seen, walking-read, step-count, end-whole}
-use Rattle.trees.proofs.DescendLaws.{two-places, length-two, top-level, top-room, walking-begin, walking-again, due-empty, left-refused}
+use Rattle.trees.proofs.DescendLaws.{two-places, length-two, top-level, top-room, walking-begin, walking-again, due-empty}
 use Rattle.trees.proofs.walk.descend.Statement.{statement}
 use Rattle.trees.proofs.walk.descend.Tie as tie
 
@@ -177,14 +172,8 @@ visit-requires c κs =
 enum-known-step : tie.Need-enum-known-step Inv-loop μ-loop
 enum-known-step c = search needs
 
-enum-told : tie.Need-enum-told Inv-loop μ-loop
-enum-told c = search needs
-
-add-stopped : tie.Need-add-stopped Inv-loop μ-loop
-add-stopped c = search needs
-
-stopped-requires : tie.Need-stopped-requires Inv-loop μ-loop
-stopped-requires c κs = search needs
+add-t38 : tie.Need-add-t38 Inv-loop μ-loop
+add-t38 c = search needs
 
 same-length-4 : tie.Need-same-length-4 Inv-loop μ-loop
 same-length-4 c =
@@ -203,17 +192,18 @@ returns-2 c =
     let t = v .before .before .before .before .before .before .before .before in
     let l = t .before .before .loop in
     let a = t .before .before .before .before .before .before .before .args in
-    let told = ap stepOutcome (c .before .enum-told .given .1) in
+    let told = ap stepOutcome (c .before .step .given .1) in
     let d : l .c .due ≡ l .c .due - 1 + 1 = omega (arith, t .if1 .taken) in
-    let e = c .stopped .ensures ∙ ap (λ (o : Outcome Count). stopReport o (l .c .visits + 1)) told in
     let f = walking-stop (l .inv .0) _ _ (due-next (l .stack) (l .c .due) (l .c .due - 1) d) (v .before .before .before .before .before .before .before .if2 .left) (l .c .due - 1) _ _ (stepped v ∙ told) in
-    let total = walkIn (shapeOf (a .g) (a .kind)) (now (a .image)) (a .root) (a .levels) (a .limit) (a .places) (length (now (a .out))) in
-    (e ∙ f ∙ end-whole (recordLen (a .kind)) total, left-refused (c .stopped .result) _ _ _ total (v .visit .last .1 .1 .1 .1 .1 .1 .0) (now (a .out)) (v .visit .last .1 .1 .1 .1 .1 .1 .1 .0) e)
+    (f ∙ end-whole (recordLen (a .kind)) (walkIn (shapeOf (a .g) (a .kind)) (now (a .image)) (a .root) (a .levels) (a .limit) (a .places) (length (now (a .out)))), tt)
+
+enum-known-step-2 : tie.Need-enum-known-step-2 Inv-loop μ-loop
+enum-known-step-2 c = search needs
 
 loop-less : tie.Need-loop-less Inv-loop μ-loop
 loop-less c =
     let v = c .before .before .before .before .before .before .before .before .before in
-    let k = step-count _ _ _ (c .before .step .given .0 .0) _ (stepped v ∙ ap stepOutcome (c .before .step .given .1)) in
+    let k = step-count _ _ _ (c .before .step2 .given .0 .0) _ (stepped v ∙ ap stepOutcome (c .before .step2 .given .1)) in
     omega (arith, k, v .before .before .before .before .before .before .before .if2 .left)
 
 loop-again : tie.Need-loop-again Inv-loop μ-loop
@@ -224,8 +214,8 @@ loop-again c =
     let s = t .before .before .before .before .before .before .before in
     let a = s .args in
     let top = l .c .due - 1 in
-    let n = c .before .step .given .0 .0 in
-    let told = ap stepOutcome (c .before .step .given .1) in
+    let n = c .before .step2 .given .0 .0 in
+    let told = ap stepOutcome (c .before .step2 .given .1) in
     let look = lookIn (shapeOf (a .g) (a .kind)) (now (a .image)) in
     let w = visitOf (getD (l .stack) (top * 2) 0) (getD (l .stack) (top * 2 + 1) 0) in
     let at : Count = record { due = top; visits = l .c .visits; bytes = l .c .bytes } in
@@ -244,8 +234,8 @@ loop-again c =
 record-len-requires : tie.Need-record-len-requires Inv-loop μ-loop
 record-len-requires c κs = search needs
 
-div-t39 : tie.Need-div-t39 Inv-loop μ-loop
-div-t39 c = omega (arith, c .record-len .ensures, bounded (c .before .before .before .before .before .before .before .before .args .kind) 5 .record-least)
+div-t40 : tie.Need-div-t40 Inv-loop μ-loop
+div-t40 c = omega (arith, c .record-len .ensures, bounded (c .before .before .before .before .before .before .before .before .args .kind) 5 .record-least)
 
 same-length-7 : tie.Need-same-length-7 Inv-loop μ-loop
 same-length-7 c = kept (c .before .before .before)
@@ -289,17 +279,16 @@ descend-spec =
     cast-level
     visit-requires
     enum-known-step
-    enum-told
-    add-stopped
-    stopped-requires
+    add-t38
     same-length-4
     same-length-5
     same-length-6
     returns-2
+    enum-known-step-2
     loop-less
     loop-again
     record-len-requires
-    div-t39
+    div-t40
     same-length-7
     same-length-8
     same-length-9
