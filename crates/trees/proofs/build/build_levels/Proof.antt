@@ -24,7 +24,7 @@ returns : tie.Need-returns
 returns c =
     let st = c .before .before .before .before .before .before in
     let a = st .args in
-    not-17 (a .g) (a .kind) (now (a .list)) (now (a .levels)) (now (a .numbers)) (now (a .out)) (a .total) (st .pre) (c .if1 .taken)
+    not-17 (a .g) (a .kind) (now (a .list)) (now (a .levels)) (now (a .numbers)) (now (a .out)) (a .total) (st .pre) (omega (arith, c .if1 .taken))
 
 div-if2 : tie.Need-div-if2
 div-if2 c =
@@ -36,19 +36,19 @@ returns-2 : tie.Need-returns-2
 returns-2 c =
     let st = c .before .before .before .before .before .before .before in
     let a = st .args in
-    not-18 (a .g) (a .kind) (now (a .list)) (now (a .levels)) (now (a .numbers)) (now (a .out)) (a .total) (st .pre) (c .before .if1 .left) (c .if2 .taken)
+    not-18 (a .g) (a .kind) (now (a .list)) (now (a .levels)) (now (a .numbers)) (now (a .out)) (a .total) (st .pre) (omega (arith, c .before .if1 .left)) (c .if2 .taken)
 
 write-tree-requires : tie.Need-write-tree-requires
 write-tree-requires c κs =
     let st = c .before .before .before .before .before .before .before .before in
     let a = st .args in
-    tree-18 (a .g) (a .kind) (now (a .list)) (now (a .levels)) (now (a .numbers)) (now (a .out)) (a .total) (st .pre) (c .before .before .if1 .left) (omega (arith, c .before .if2 .left))
+    tree-18 (a .g) (a .kind) (now (a .list)) (now (a .levels)) (now (a .numbers)) (now (a .out)) (a .total) (st .pre) (omega (arith, c .before .before .if1 .left)) (omega (arith, c .before .if2 .left))
 
 mul-t13 : tie.Need-mul-t13
 mul-t13 c =
     let st = c .before .before .before .before .before .before .before .before .before .before .before in
     let a = st .args in
-    omega (arith, fits-18 (a .g) (a .kind) (now (a .list)) (now (a .levels)) (now (a .numbers)) (now (a .out)) (a .total) (st .pre) (c .before .before .before .before .before .if1 .left) (omega (arith, c .before .before .before .before .if2 .left)), out-small st)
+    omega (arith, fits-18 (a .g) (a .kind) (now (a .list)) (now (a .levels)) (now (a .numbers)) (now (a .out)) (a .total) (st .pre) (omega (arith, c .before .before .before .before .before .if1 .left)) (omega (arith, c .before .before .before .before .if2 .left)), out-small st)
 
 same-length : tie.Need-same-length
 same-length c = search needs
@@ -57,7 +57,7 @@ returns-3 : tie.Need-returns-3
 returns-3 c =
     let st = c .before .before .before .before .before .before .before .before .before .before .before in
     let a = st .args in
-    done-18 (a .g) (a .kind) (now (a .list)) (now (a .levels)) (now (a .numbers)) (now (a .out)) (a .total) (st .pre) (c .before .before .before .before .before .if1 .left) (omega (arith, c .before .before .before .before .if2 .left)) (uuid-long st) _ (c .before .before .write-tree .ensures)
+    done-18 (a .g) (a .kind) (now (a .list)) (now (a .levels)) (now (a .numbers)) (now (a .out)) (a .total) (st .pre) (omega (arith, c .before .before .before .before .before .if1 .left)) (omega (arith, c .before .before .before .before .if2 .left)) (uuid-long st) _ (c .before .before .write-tree .ensures)
 
 pub build-levels-spec : {M : Type 1} → statement M
 build-levels-spec =

@@ -1,7 +1,7 @@
 -- `trees::build::write_node` meets its contract.
 -- Assumes nothing.
 use Prim.Native.Nat.{ℕ, _+_, _-_, _*_, _/_, _≤_}
-use mathlib.Core.Path.{ap, _∙_}
+use mathlib.Core.Path.{_≡_, ap, _∙_}
 use mathlib.Core.List.{List}
 use native.Mathlib.Omega.{arith}
 use lib.ListN.{length, length-replicate}
@@ -57,6 +57,24 @@ put-all-keys-requires c κs =
     let r = room-at (c .before .before .before .before .before) in
     (st .pre .children, omega (arith, r .keys-in, st .pre .long, ap length (c .before .before .before .clear8 .ensures), length-replicate {A = ℕ} (length (now (st .args .b))) 0))
 
+-- a write at the same place
+moved : (x y bs : List ℕ) (at far : ℕ) → y ≡ withBytes x at bs → at ≡ far → y ≡ withBytes x far bs
+moved x y bs at far e h = e ∙ ap (λ (k : ℕ). withBytes x k bs) h
+
+returns : tie.Need-returns
+returns c =
+    let st = c .before .before .before .before .before .before .before .before .before .before .before .before .before .before .before .before .before .before .before .before .before .before .before .before in
+    let a = st .args in
+    let h = c .before .before .before .before .before .before .before .before .before .before .before .before .before .before .before .before .before .before .before .header-len in
+    let far = h .result + (a .g .blocksize - h .result) / c .before .before .before .before .before .before .before .before .before .before .before .before .before .before .before .before .before .entry-len .result * c .before .before .before .before .before .before .before .before .before .before .before .before .before .before .before .before .keys-len .result in
+    let cs = levelChildren (a .kind) (now (a .list)) (now (a .levels)) (a .level) (a .child) (now (a .below)) in
+    c .before .before .stamp .ensures
+    ∙ ap (stamped (a .g) (a .kind) (a .number) (a .level + 1) (length (now (a .below))) noSibling noSibling)
+    (moved _ _ (pointerBytes (now (a .below))) _ far (c .before .before .before .before .before .before .put-pointers .ensures) (omega arith)
+    ∙ ap (λ (x : List ℕ). withBytes x far (pointerBytes (now (a .below))))
+    (c .before .before .before .before .before .before .before .before .before .before .put-all-keys .ensures ∙ ap (λ (x : List ℕ). withBytes x (h .result) (keysOf (keysUnder (a .kind)) cs)) (c .before .before .before .before .before .before .before .before .before .before .before .before .before .before .clear8 .ensures)))
+    ∙ room-at (c .before .before .before .before .before .before .before .before .before .before .before .before .before .before .before .before) .made (a .number)
+
 mul-put-pointers : tie.Need-mul-put-pointers
 mul-put-pointers c = omega (arith, room-at (c .before .before .before .before .before .before .before .before .before) .room-in)
 
@@ -82,20 +100,6 @@ stamp-requires c κs =
 
 same-length : tie.Need-same-length
 same-length c = search needs
-
-returns : tie.Need-returns
-returns c =
-    let st = c .before .before .before .before .before .before .before .before .before .before .before .before .before .before .before .before .before .before .before .before .before .before .before .before in
-    let a = st .args in
-    let h = c .before .before .before .before .before .before .before .before .before .before .before .before .before .before .before .before .before .before .before .header-len in
-    let far = h .result + (a .g .blocksize - h .result) / c .before .before .before .before .before .before .before .before .before .before .before .before .before .before .before .before .before .entry-len .result * c .before .before .before .before .before .before .before .before .before .before .before .before .before .before .before .before .keys-len .result in
-    let cs = levelChildren (a .kind) (now (a .list)) (now (a .levels)) (a .level) (a .child) (now (a .below)) in
-    c .before .before .stamp .ensures
-    ∙ ap (stamped (a .g) (a .kind) (a .number) (a .level + 1) (length (now (a .below))) noSibling noSibling)
-    (c .before .before .before .before .before .before .put-pointers .ensures
-    ∙ ap (λ (x : List ℕ). withBytes x far (pointerBytes (now (a .below))))
-    (c .before .before .before .before .before .before .before .before .before .before .put-all-keys .ensures ∙ ap (λ (x : List ℕ). withBytes x (h .result) (keysOf (keysUnder (a .kind)) cs)) (c .before .before .before .before .before .before .before .before .before .before .before .before .before .before .clear8 .ensures)))
-    ∙ room-at (c .before .before .before .before .before .before .before .before .before .before .before .before .before .before .before .before) .made (a .number)
 
 pub write-node-spec : {M : Type 1} → statement M
 write-node-spec =

@@ -35,7 +35,7 @@ loop-again : tie.Need-loop-again Inv-loop μ-loop
 loop-again c =
     let l = c .before .loop in
     let s = now (c .before .before .args .s) in
-    (omega arith, length-set (l .s) (l .i) 0 ∙ l .inv .1, clear-more s (l .s) (l .i) (omega arith) (l .inv .2))
+    (omega arith, length-set (l .s) (l .i) _ ∙ l .inv .1, clear-more s (l .s) (l .i) (omega arith) (l .inv .2))
 
 same-length : tie.Need-same-length Inv-loop μ-loop
 same-length c = search needs

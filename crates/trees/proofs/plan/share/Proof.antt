@@ -14,6 +14,14 @@ div-each c = search needs
 rem-if1 : tie.Need-rem-if1
 rem-if1 c = search needs
 
+returns : tie.Need-returns
+unfolding shareOf
+returns c = let a = c .before .args in rw (lt-ltb (a .i) (a .entries % a .blocks) (omega (arith, c .if1 .taken)))
+
+returns-2 : tie.Need-returns-2
+unfolding shareOf
+returns-2 c = let a = c .before .args in rw (le-ltb (a .i) (a .entries % a .blocks) (omega (arith, c .if1 .left))) (sym (add-zero _))
+
 add-result : tie.Need-add-result
 add-result c =
     let a = c .before .args in
@@ -22,14 +30,6 @@ add-result c =
     let more : 1 < a .blocks = omega (arith, m, c .if1 .taken) in
     let some : 0 < a .entries = omega (arith, l, c .if1 .taken) in
     omega (arith, div-lt-self some more)
-
-returns : tie.Need-returns
-unfolding shareOf
-returns c = rw (lt-ltb _ _ (c .if1 .taken))
-
-returns-2 : tie.Need-returns-2
-unfolding shareOf
-returns-2 c = rw (le-ltb _ _ (c .if1 .left)) (sym (add-zero _))
 
 pub share-spec : {M : Type 1} → statement M
 share-spec = tie.close (tie.spec div-each rem-if1 add-result returns returns-2)

@@ -120,7 +120,7 @@ returns c =
     let l = c .before .before .before .loop in
     let a = c .before .before .before .before .before .before .before .before .args in
     let d : l .c .due ≡ l .c .due - 1 + 1 = omega (arith, c .before .if1 .taken) in
-    (walking-spent (l .inv .0) _ _ (due-next (l .stack) (l .c .due) (l .c .due - 1) d) (c .if2 .taken) ∙ end-whole (recordLen (a .kind)) (walkIn (shapeOf (a .g) (a .kind)) (now (a .image)) (a .root) (a .levels) (a .limit) (a .places) (length (now (a .out)))), tt)
+    (walking-spent (l .inv .0) _ _ (due-next (l .stack) (l .c .due) (l .c .due - 1) d) (omega (arith, c .if2 .taken)) ∙ end-whole (recordLen (a .kind)) (walkIn (shapeOf (a .g) (a .kind)) (now (a .image)) (a .root) (a .levels) (a .limit) (a .places) (length (now (a .out)))), tt)
 
 sub-top : tie.Need-sub-top Inv-loop μ-loop
 sub-top c = search needs
@@ -194,7 +194,7 @@ returns-2 c =
     let a = t .before .before .before .before .before .before .before .args in
     let told = ap stepOutcome (c .before .step .given .1) in
     let d : l .c .due ≡ l .c .due - 1 + 1 = omega (arith, t .if1 .taken) in
-    let f = walking-stop (l .inv .0) _ _ (due-next (l .stack) (l .c .due) (l .c .due - 1) d) (v .before .before .before .before .before .before .before .if2 .left) (l .c .due - 1) _ _ (stepped v ∙ told) in
+    let f = walking-stop (l .inv .0) _ _ (due-next (l .stack) (l .c .due) (l .c .due - 1) d) (omega (arith, v .before .before .before .before .before .before .before .if2 .left)) (l .c .due - 1) _ _ (stepped v ∙ told) in
     (f ∙ end-whole (recordLen (a .kind)) (walkIn (shapeOf (a .g) (a .kind)) (now (a .image)) (a .root) (a .levels) (a .limit) (a .places) (length (now (a .out)))), tt)
 
 enum-known-step-2 : tie.Need-enum-known-step-2 Inv-loop μ-loop
@@ -227,7 +227,7 @@ loop-again c =
     let d : l .c .due ≡ top + 1 = omega (arith, t .if1 .taken) in
     let k =
     walking-again (l .stack) (a .levels) (perNode (shapeOf (a .g) (a .kind))) (l .c) (l .inv .0) (l .inv .1) (look-falls (a .g) (a .kind) (now (a .image)) (s .pre .0 .good)) top n stack′ scratch′ out′
-    d (v .before .before .before .before .before .before .before .if2 .left) (v .before .before .before .before .before .slice-known4 .given (top * 2) .fits)
+    d (omega (arith, v .before .before .before .before .before .before .before .if2 .left)) (v .before .before .before .before .before .slice-known4 .given (top * 2) .fits)
     (look w) refl (stepped v ∙ told) wr in
     (k .0, k .1, v .visit .kept .1 .1 .1 .1 .1 .0 ∙ l .inv .2, v .visit .kept .1 .1 .1 .1 .1 .1 .0 ∙ l .inv .3)
 
