@@ -1,6 +1,7 @@
 -- `exports::tree_calls::kf_plan` meets its contract.
 -- Assumes nothing.
 use borrow.Author.Needs.{needs}
+use native.Mathlib.Omega.{arith}
 use mathlib.Core.Logic.{⊎-elim}
 use denote.Ref.{now}
 use Rattle.exports.proofs.TreeCalls.{plan-done, plan-refused}
@@ -25,8 +26,8 @@ returns c =
     let p = q .before .before in
     let a = p .before .before .before .args in
     ⊎-elim
-    (λ w. plan-done (a .records) (now (a .levels)) (p .before .before .geometry .ensures) (p .before .tree-kind .ensures) (p .plan .ensures) (q .planned-answer .ensures) (w .0 .taken) _ (w .1))
-    (λ w. plan-refused (a .records) (now (a .levels)) (p .before .before .geometry .ensures) (p .before .tree-kind .ensures) (p .plan .ensures) (q .planned-answer .ensures) (w .0 .left) _ (w .1))
+    (λ w. plan-done (a .records) (now (a .levels)) (p .before .before .geometry .ensures) (p .before .tree-kind .ensures) (p .plan .ensures) (q .planned-answer .ensures) (omega (arith, w .0 .taken)) _ (w .1))
+    (λ w. plan-refused (a .records) (now (a .levels)) (p .before .before .geometry .ensures) (p .before .tree-kind .ensures) (p .plan .ensures) (q .planned-answer .ensures) (omega (arith, w .0 .left)) _ (w .1))
     (c .before .if1 .came)
 
 pub kf-plan-spec : {M : Type 1} → statement M
