@@ -1,4 +1,5 @@
-// The keys of a child in a node of the reverse map: the first record's, and the greatest high key of the records under the child.
+// The keys of a child in a node of the reverse map: the first record's, and the greatest high key of the records under the child, the last of
+// equals (`EveryHighest` of specs/HighKeys.antt).
 ghost use mathlib.Core.Path.{_≡_};
 ghost use mathlib.Core.Bool.{true};
 ghost use Prim.Native.Nat.{_+_, _/_, _≤_, _<_};
@@ -21,7 +22,7 @@ pub(crate) struct RmapKey {
 // One more than the largest file offset.
 const OFF_LIMIT: u64 = 0x40_0000_0000_0000;
 
-// The key of a record's last block.
+// The key of a record's last block (`EveryHighKey` of specs/HighKeys.antt).
 fn high_key(r: Rmap) -> RmapKey
     requires { ⌜ good r ≡ true ⌝ }
     ensures { λ k. ⌜ k ≡ highKey r ⌝ }
