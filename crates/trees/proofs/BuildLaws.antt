@@ -7,8 +7,8 @@ use mathlib.Core.Path.{_≡_, refl, sym, ap, _∙_, subst}
 use mathlib.Core.Bool.{Bool, true, false}
 use mathlib.Core.List.{List, [], _∷_}
 use lib.Dec.{leb, eqb}
-use lib.ListN.{length, take, drop, length-append, length-replicate, replicate}
-use borrow.Author.Tests.{eq-eqb, ne-eqb, le-leb, lt-leb, leb-true}
+use lib.ListN.{length, take, drop}
+use borrow.Author.Tests.{eq-eqb, ne-eqb, le-leb, lt-leb}
 use Rattle.codec.specs.Bytes.{withBytes}
 use Rattle.codec.specs.Question.{none, Outcome, done, refused, ask, answer}
 use Rattle.codec.specs.Accepted.{whole}
@@ -25,12 +25,11 @@ use Rattle.blocks.specs.declared.kind.TreeKind.the-variants.{Rmap, Refcount}
 use Rattle.blocks.specs.Geometry.{geometryOk}
 use Rattle.blocks.specs.Tree.{hasTree, recordLen}
 use Rattle.blocks.proofs.Laws.{blocksize-within}
-use Rattle.trees.specs.Plan.{sum}
+use Rattle.trees.specs.Plan.{levelsOf, sum}
+use Rattle.trees.specs.Walk.{perLeaf, perNode}
 use Rattle.trees.specs.Shapes.{shapeOf}
-use Rattle.trees.specs.PlanAnswer.{planOutcome, levelsIn, placesOf, answerOutcome, levelsSaid, PlanIs}
-use Rattle.trees.specs.declared.plan.Planned.{Planned}
-use Rattle.trees.specs.declared.plan.PlanAnswer.{PlanAnswer}
-use Rattle.trees.specs.declared.plan.PlanAnswer.the-variants as plans
+use Rattle.trees.specs.PlanAnswer.{LevelsAre}
+use Rattle.trees.specs.declared.plan.LevelPlan.{LevelPlan}
 use Rattle.trees.specs.declared.build.BuildRefusal.the-variants as why
 use Rattle.trees.specs.declared.build.Built.{Built}
 use Rattle.trees.specs.declared.build.Built.the-variants.{Done, Refused}
@@ -39,10 +38,10 @@ use Rattle.trees.specs.BuildCall.{layoutOf, orderNumber, ordered, builtB
 use Rattle.trees.specs.BuildAnswer.{Builds}
 use Rattle.trees.specs.BuildNeeds.{Keyed, Given, Tree, PlanGiven}
 use Rattle.trees.proofs.KeyLaws.{accepted-good}
+use Rattle.trees.proofs.PlanLaws.{few-most, few-taken, few-inside, few-all}
 use Rattle.trees.proofs.Stored.{output-length, build-made}
 use Rattle.trees.proofs.TreeKinds.{sized}
 use Rattle.trees.proofs.BuiltReturned.{whole-records}
-use Rattle.trees.proofs.Sharing.{split}
 
 -- ---- 17 and 18
 
@@ -99,68 +98,30 @@ module _ (g : Geometry) (kind : TreeKind) (list levels numbers out : List ℕ) (
 
 -- ---- 16
 
-module _ (g : Geometry) (kind : TreeKind) (list numbers out : List ℕ) (q : Given g kind list) (v : ℕ) (ve : v ≡ recordLen kind) (p : Planned)
-    (is : PlanIs (planOutcome g kind (length list / v)) p) where
+module _ (g : Geometry) (kind : TreeKind) (list numbers out : List ℕ) (q : Given g kind list) (v : ℕ) (ve : v ≡ recordLen kind) (p : LevelPlan)
+    (is : LevelsAre (levelsOf (perLeaf (shapeOf g kind)) (perNode (shapeOf g kind)) (length list / v)) p) where
   abbrev ls : List ℕ
   ls = planOf (shapeOf g kind) list
 
-  plan-is : planOutcome g kind (length list / v) ≡ answer (ask 16 (leb (length ls) 9) ∷ []) (done ls)
-  plan-is = rw (ve, q .ok) refl
+  said : LevelsAre ls p
+  said = subst (λ (w : ℕ). LevelsAre (levelsOf (perLeaf (shapeOf g kind)) (perNode (shapeOf g kind)) (length list / w)) p) ve is
 
-  said : answerOutcome (p .answer) (p .blocks) ≡ answer (ask 16 (leb (length ls) 9) ∷ []) (done ls)
-  said = is .outcome ∙ plan-is
+  module _ (f : p .few ≡ true) where
+    pub levels-in : p .levels ≤ length (p .blocks)
+    levels-in = few-inside ls p said f
 
-  module _ (n : ℕ) (a : p .answer ≡ plans.Levels n) where
-    means : (leb (length ls) 9 ≡ true) × (ls ≡ take n (p .blocks))
-    means =
-        let m = done-means (ask 16 (leb (length ls) 9) ∷ []) ls (take n (p .blocks)) (sym said ∙ ap (λ (x : PlanAnswer). answerOutcome x (p .blocks)) a) in
-        (m .0 .0, m .1)
-
-    outcome-is : planOutcome g kind (length list / v) ≡ done ls
-    outcome-is = plan-is ∙ rw (means .0) refl
-
-    few : length ls ≤ 9
-    few = leb-true (length ls) 9 (means .0)
-
-    places : p .blocks ≡ placesOf ls
-    places = is .places ∙ ap (λ (o : Outcome (List ℕ)). placesOf (levelsIn o)) outcome-is
-
-    places-nine : length (p .blocks) ≡ 9
-    places-nine = omega (arith, ap length places, length-append ls (replicate (9 - length ls) 0), length-replicate {A = ℕ} (9 - length ls) 0, few)
-
-    pub levels-in : n ≤ length (p .blocks)
-    levels-in = let nine : n ≤ 9 = subst (λ (x : PlanAnswer). levelsSaid x ≤ 9) a (is .few) in omega (arith, places-nine)
-
-    pub plan-given : PlanGiven g kind list (take (n - 0) (drop 0 (p .blocks))) (p .total)
+    pub plan-given : PlanGiven g kind list (take (p .levels - 0) (drop 0 (p .blocks))) (p .total)
     plan-given =
-        let cut : take (n - 0) (drop 0 (p .blocks)) ≡ ls = ap (λ (x : ℕ). take x (p .blocks)) (sub-zero n) ∙ sym (means .1) in
-        record {
-          given = q;
-          plan = cut;
-          few = rw cut few;
-          all = is .all ∙ ap (λ (o : Outcome (List ℕ)). sum (levelsIn o)) outcome-is ∙ ap sum (sym cut);
-        }
+        let cut : take (p .levels - 0) (drop 0 (p .blocks)) ≡ ls = ap (λ (x : ℕ). take x (p .blocks)) (sub-zero (p .levels)) ∙ few-taken ls p said f in
+        record { given = q; plan = cut; few = rw cut (few-most ls p said f); all = few-all ls p said f ∙ ap sum (sym cut) }
 
     pub has-16 : (r : Built) (out′ : List ℕ) → Builds (roomOutcome g kind list numbers (length out)) r out out′ → Builds (planThenRoom g kind list numbers (length out)) r out out′
     unfolding planThenRoom
-    has-16 r out′ b = rw (means .0) b
+    has-16 r out′ b = rw (le-leb (length ls) 9 (few-most ls p said f)) b
 
-  -- 1 holds, and so the plan does not refuse by it
-  pub plan-not-1 : p .answer ≡ plans.BadGeometry → ⊥
-  plan-not-1 e =
-      let h : refused 1 none ≡ answer (ask 16 (leb (length ls) 9) ∷ []) (done ls) = ap (λ (x : PlanAnswer). answerOutcome x (p .blocks)) (sym e) ∙ said in
-      split (leb (length ls) 9)
-      (λ t. let same : refused 1 none ≡ done ls = h ∙ rw t refl in let z : _≡_ {A = ℕ} 0 1 = cc in omega arith)
-      (λ t. let same : _≡_ {A = Outcome (List ℕ)} (refused 1 none) (refused 16 none) = h ∙ rw t refl in let z : _≡_ {A = ℕ} 1 16 = cc in omega arith)
-
-  pub not-16 : p .answer ≡ plans.TooManyLevels → Builds (planThenRoom g kind list numbers (length out)) (Refused why.Levels) out out
+  pub not-16 : p .few ≡ false → Builds (planThenRoom g kind list numbers (length out)) (Refused why.Levels) out out
   unfolding planThenRoom
-  not-16 e =
-      split (leb (length ls) 9)
-      (λ t.
-      let same : refused 16 none ≡ done ls = ap (λ (x : PlanAnswer). answerOutcome x (p .blocks)) (sym e) ∙ said ∙ rw t refl in
-      let z : _≡_ {A = ℕ} 0 1 = cc in absurd (omega arith))
-      (λ t. record { outcome = rw t refl; output = rw t refl })
+  not-16 f = let t : leb (length ls) 9 ≡ false = sym (said .few) ∙ f in record { outcome = rw t refl; output = rw t refl }
 
 -- ---- 19, and 20 or 21
 

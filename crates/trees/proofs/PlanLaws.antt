@@ -5,15 +5,17 @@ use native.Mathlib.Nat.{add-div-right, div-eq-of-lt, div-le-self, div-mul-le-sel
 use native.Mathlib.Numerals.{add-one}
 use native.Mathlib.Omega.{arith}
 use mathlib.Core.Path.{_≡_, refl, sym, ap, ap₂, _∙_}
+use mathlib.Core.Bool.{true, false}
 use mathlib.Core.List.{List, [], _∷_, _++_, append-assoc, append-nil}
 use lib.ListN.{length, replicate, take, drop, set, length-append, length-set, take-append-drop}
-use lib.Seq.{length-take-le, take-suc-set, drop-set-lt, drop-drop}
+use lib.Seq.{length-take-le, take-suc-set, drop-set-lt, drop-drop, take-append-seam}
 use lib.Dec.{leb}
-use borrow.Author.Tests.{le-leb, lt-leb}
-use Rattle.codec.specs.Question.{Outcome, done, ask, answer}
+use borrow.Author.Tests.{le-leb, lt-leb, leb-true}
+use Rattle.codec.specs.Question.{done, ask, answer}
+use Rattle.trees.specs.declared.plan.LevelPlan.{LevelPlan}
 use Rattle.trees.specs.declared.plan.PlanAnswer.the-variants.{Levels, TooManyLevels}
 use Rattle.trees.specs.Plan.{ceil, leaves, above, levelsOf, sum}
-use Rattle.trees.specs.PlanAnswer.{PlanIs}
+use Rattle.trees.specs.PlanAnswer.{placesOf, LevelsAre, PlanIs}
 
 pub ceil-zero : (b : ℕ) → 0 < b → ceil 0 b ≡ 0
 unfolding ceil
@@ -119,18 +121,18 @@ module _ {p top : ℕ} {ls blocks : List ℕ} {below total n : ℕ} (g : Grown p
   grown-length : below ≤ 1 → length ls ≡ n
   grown-length h = ap length (sym (grown-all h)) ∙ length-take-le n blocks (omega (arith, g .len, g .most))
 
-  pub grown-done : below ≤ 1 → PlanIs (answer (ask 16 (leb (length ls) 9) ∷ []) (done ls)) (record { answer = Levels n; blocks = blocks; total = total })
+  pub grown-done : below ≤ 1 → LevelsAre ls (record { few = true; levels = n; blocks = blocks; total = total })
   grown-done h =
       let e = grown-length h in
-      rw (e, le-leb n 9 (g .most))
-      (record {
-        outcome = ap done (grown-all h);
-        levels = sym e;
-        few = g .most;
+      let t : leb (length ls) 9 ≡ true = rw e (le-leb n 9 (g .most)) in
+      record {
+        few = sym t;
+        levels = rw t (sym e);
         places =
-            sym (take-append-drop n blocks) ∙ ap₂ (λ (x y : List ℕ). x ++ y) (grown-all h) (g .rest ∙ ap (λ (k : ℕ). replicate (9 - k) 0) (sym e));
-        all = g .summed ∙ ap sum (grown-all h);
-      })
+            rw t
+            (sym (take-append-drop n blocks) ∙ ap₂ (λ (x y : List ℕ). x ++ y) (grown-all h) (g .rest ∙ ap (λ (k : ℕ). replicate (9 - k) 0) (sym e)));
+        all = rw t (g .summed ∙ ap sum (grown-all h));
+      }
 
   -- nine levels are full and more are to come
   grown-over : 1 < below → n ≡ 9 → length ls ≡ 10
@@ -142,9 +144,11 @@ module _ {p top : ℕ} {ls blocks : List ℕ} {below total n : ℕ} (g : Grown p
       ∙ ap (λ (l : List ℕ). length (take n blocks) + length l) o
       ∙ omega (arith, length-take-le n blocks (omega (arith, g .len, g .most)))
 
-  pub grown-refused : 1 < below → n ≡ 9 → PlanIs (answer (ask 16 (leb (length ls) 9) ∷ []) (done ls)) (record { answer = TooManyLevels; blocks = replicate 9 0; total = 0 })
+  pub grown-refused : 1 < below → n ≡ 9 → LevelsAre ls (record { few = false; levels = 0; blocks = replicate 9 0; total = 0 })
   unfolding sum
-  grown-refused h e = rw (grown-over h e) (record { outcome = refl; levels = refl; few = omega arith; places = refl; all = refl })
+  grown-refused h e =
+      let t : leb (length ls) 9 ≡ false = rw (grown-over h e) refl in
+      record { few = sym t; levels = rw t refl; places = rw t refl; all = rw t refl }
 
 grown-first : (p b : ℕ) (places : List ℕ) → length places ≡ 9 → places ≡ replicate 9 0 → Grown p b (b ∷ above p b 9) (set places 0 b) b b 1
 unfolding sum
@@ -163,3 +167,36 @@ grown-first p b places l e =
 pub grown-start : (perLeaf p records b : ℕ) → b ≡ leaves perLeaf records → Grown p (leaves perLeaf records) (levelsOf perLeaf p records) (set (replicate 9 0) 0 b) b b 1
 unfolding levelsOf
 grown-start perLeaf p records b e = rw (← e) (grown-first p b (replicate 9 0) refl refl)
+
+-- ---- what a plan says of its levels
+
+module _ (ls : List ℕ) (p : LevelPlan) (is : LevelsAre ls p) where
+  module _ (f : p .few ≡ true) where
+    has-few : leb (length ls) 9 ≡ true
+    has-few = sym (is .few) ∙ f
+
+    few-levels : p .levels ≡ length ls
+    few-levels = is .levels ∙ rw has-few refl
+
+    few-places : p .blocks ≡ placesOf ls
+    few-places = is .places ∙ rw has-few refl
+
+    pub few-most : length ls ≤ 9
+    few-most = leb-true (length ls) 9 has-few
+
+    pub few-taken : take (p .levels) (p .blocks) ≡ ls
+    few-taken = ap₂ (λ (n : ℕ) (l : List ℕ). take n l) few-levels few-places ∙ take-append-seam ls (replicate (9 - length ls) 0)
+
+    pub few-inside : p .levels ≤ length (p .blocks)
+    few-inside = omega (arith, few-levels, few-most, ap length few-places, length-append ls (replicate (9 - length ls) 0))
+
+    pub few-all : p .total ≡ sum ls
+    few-all = is .all ∙ rw has-few refl
+
+    pub plan-few : PlanIs (answer (ask 16 (leb (length ls) 9) ∷ []) (done ls)) (record { answer = Levels (p .levels); blocks = p .blocks; total = p .total })
+    plan-few = rw has-few (record { outcome = ap done few-taken; levels = few-levels; few = omega (arith, few-levels, few-most); places = few-places; all = few-all })
+
+  pub plan-many : p .few ≡ false → PlanIs (answer (ask 16 (leb (length ls) 9) ∷ []) (done ls)) (record { answer = TooManyLevels; blocks = p .blocks; total = p .total })
+  plan-many f =
+      let t : leb (length ls) 9 ≡ false = sym (is .few) ∙ f in
+      rw t (record { outcome = refl; levels = refl; few = omega arith; places = is .places ∙ rw t refl; all = is .all ∙ rw t refl })

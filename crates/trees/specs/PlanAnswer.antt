@@ -2,7 +2,9 @@
 -- Assumes nothing.
 use Prim.Native.Nat.{ℕ, _-_, _≤_}
 use mathlib.Core.Path.{_≡_}
+use mathlib.Core.Bool.{cond}
 use mathlib.Core.List.{List, [], _∷_, _++_}
+use lib.Dec.{leb}
 use lib.ListN.{length, take, replicate}
 use Rattle.codec.specs.Question.{none, Outcome, done, refused, ask, answer}
 use Rattle.blocks.specs.declared.geometry.Geometry.{Geometry}
@@ -10,6 +12,7 @@ use Rattle.blocks.specs.declared.kind.TreeKind.{TreeKind}
 use Rattle.blocks.specs.Geometry.{geometryOk}
 use Rattle.trees.specs.declared.plan.PlanAnswer.{PlanAnswer}
 use Rattle.trees.specs.declared.plan.PlanAnswer.the-variants.{Levels, BadGeometry, TooManyLevels}
+use Rattle.trees.specs.declared.plan.LevelPlan.{LevelPlan}
 use Rattle.trees.specs.declared.plan.Planned.{Planned}
 use Rattle.trees.specs.Plan.{planned, sum}
 use Rattle.trees.specs.Walk.{perLeaf, perNode}
@@ -28,6 +31,17 @@ levelsIn (refused n x) = []
 -- the nine places of an answer: the blocks of each level, and zeros after them
 abbrev pub placesOf : List ℕ → List ℕ
 placesOf ls = ls ++ replicate (9 - length ls) 0
+
+-- the levels where there are up to 9, else none
+abbrev pub fewLevels : List ℕ → List ℕ
+fewLevels ls = cond (leb (length ls) 9) ls []
+
+-- the levels ls as a level plan says them
+pub record LevelsAre (ls : List ℕ) (p : LevelPlan) : Type 0 where
+  pub few : p .few ≡ leb (length ls) 9
+  pub levels : p .levels ≡ length (fewLevels ls)
+  pub places : p .blocks ≡ placesOf (fewLevels ls)
+  pub all : p .total ≡ sum (fewLevels ls)
 
 abbrev pub answerOutcome : PlanAnswer → List ℕ → Outcome (List ℕ)
 answerOutcome (Levels n) blocks = done (take n blocks)

@@ -15,8 +15,7 @@ ghost use Rattle.trees.specs.BuildNeeds.{Given, Under, Planned, pointerB
 use crate::keys::put_rmap_keys;
 use crate::memory::clear8;
 use crate::memory::copy;
-use crate::plan::PlanAnswer;
-use crate::plan::plan;
+use crate::plan::plan_levels;
 use crate::plan::share;
 use blocks::geometry::AgBlock;
 use blocks::geometry::Geometry;
@@ -341,29 +340,19 @@ fn build_levels(
     Built::Done(count * size)
 }
 
-// Question 16, then 17 and 18 and the tree. The plan does not refuse the geometry: 1 was asked before.
+// Question 16, then 17 and 18 and the tree.
 fn build_planned(g: Geometry, kind: TreeKind, list: &[u8], numbers: &[u32], out: &mut [u8]) -> Built
     requires { ⌜ Given g kind (now list) ⌝ }
     ensures { λ r. ⌜ Builds (planThenRoom g kind (now (list .entry)) (now (numbers .entry)) (length (now (out .entry)))) r (now (out .entry)) (now (out .exit)) ⌝ }
 {
     let n = list.len() / kind.record_len();
-    let p = plan(g, kind, n as u64);
-    let answer = p.answer;
-    let places = p.blocks;
-    let total = p.total;
-    match answer {
-        PlanAnswer::Levels(count) => build_levels(
-            g,
-            kind,
-            list,
-            &places[0..count],
-            total,
-            numbers,
-            out,
-        ),
-        PlanAnswer::BadGeometry => Built::Refused(BuildRefusal::BadGeometry),
-        PlanAnswer::TooManyLevels => Built::Refused(BuildRefusal::Levels),
+    let p = plan_levels(g, kind, n as u64);
+    if !p.few {
+        return Built::Refused(BuildRefusal::Levels);
     }
+    let count = p.levels;
+    let places = p.blocks;
+    build_levels(g, kind, list, &places[0..count], p.total, numbers, out)
 }
 
 // Questions 19, and 20 or 21.

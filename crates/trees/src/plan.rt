@@ -1,8 +1,12 @@
 // How many blocks each level of a tree has, and how entries are shared over the blocks of a level.
 ghost use mathlib.Core.Path.{_≡_};
+ghost use mathlib.Core.Bool.{true};
 ghost use Prim.Native.Nat.{_<_, _≤_};
-ghost use Rattle.trees.specs.Plan.{ceil, planned, shareOf};
-ghost use Rattle.trees.specs.PlanAnswer.{planOutcome, PlanIs};
+ghost use Rattle.blocks.specs.Geometry.{geometryOk};
+ghost use Rattle.trees.specs.Plan.{ceil, levelsOf, shareOf};
+ghost use Rattle.trees.specs.Walk.{perLeaf, perNode};
+ghost use Rattle.trees.specs.Shapes.{shapeOf};
+ghost use Rattle.trees.specs.PlanAnswer.{planOutcome, LevelsAre, PlanIs};
 use blocks::geometry::Geometry;
 use blocks::kind::TreeKind;
 use blocks::kind::block_capacity;
@@ -23,6 +27,15 @@ pub struct Planned {
     pub answer: PlanAnswer,
     pub blocks: [u64; 9],
     pub total: u64,
+}
+
+// The levels of a plan: how many, the blocks of each, leaves first, and of all together. `few` is question 16: are there up to 9? If not, the
+// numbers are 0.
+pub(crate) struct LevelPlan {
+    pub(crate) few: bool,
+    pub(crate) levels: usize,
+    pub(crate) blocks: [u64; 9],
+    pub(crate) total: u64,
 }
 
 // a / b, rounded up.
@@ -48,10 +61,10 @@ pub(crate) fn share(entries: u64, blocks: u64, i: u64) -> u64
     each
 }
 
-// The plan for leaves and nodes of so many places.
-fn plan_levels(per_leaf: u64, per_node: u64, records: u64) -> Planned
+// The levels over leaves and nodes of so many places.
+fn count_levels(per_leaf: u64, per_node: u64, records: u64) -> LevelPlan
     requires { ⌜ (10 ≤ «per_leaf») × (10 ≤ «per_node») ⌝ }
-    ensures { λ r. ⌜ PlanIs (planned «per_leaf» «per_node» records) r ⌝ }
+    ensures { λ r. ⌜ LevelsAre (levelsOf «per_leaf» «per_node» records) r ⌝ }
 {
     let mut blocks = [0u64; 9];
     let mut below = ceil_div(records, per_leaf);
@@ -63,8 +76,9 @@ fn plan_levels(per_leaf: u64, per_node: u64, records: u64) -> Planned
     let mut n: usize = 1;
     while 1 < below {
         if n == 9 {
-            return Planned {
-                answer: PlanAnswer::TooManyLevels,
+            return LevelPlan {
+                few: false,
+                levels: 0,
                 blocks: [0u64; 9],
                 total: 0,
             };
@@ -74,11 +88,24 @@ fn plan_levels(per_leaf: u64, per_node: u64, records: u64) -> Planned
         total += below;
         n += 1;
     }
-    Planned {
-        answer: PlanAnswer::Levels(n),
+    LevelPlan {
+        few: true,
+        levels: n,
         blocks,
         total,
     }
+}
+
+// The levels of a tree of so many records, once 1 is asked.
+pub(crate) fn plan_levels(g: Geometry, kind: TreeKind, records: u64) -> LevelPlan
+    requires { ⌜ geometryOk g ≡ true ⌝ }
+    ensures { λ r. ⌜ LevelsAre (levelsOf (perLeaf (shapeOf g kind)) (perNode (shapeOf g kind)) records) r ⌝ }
+{
+    let version = g.version;
+    let size = g.blocksize as usize;
+    let per_leaf = block_capacity(kind, version, 0, size);
+    let per_node = block_capacity(kind, version, 1, size);
+    count_levels(per_leaf as u64, per_node as u64, records)
 }
 
 // The plan of a tree of so many records: questions 1 and 16, on version 4 too.
@@ -92,9 +119,19 @@ pub fn plan(g: Geometry, kind: TreeKind, records: u64) -> Planned
             total: 0,
         };
     }
-    let version = g.version;
-    let size = g.blocksize as usize;
-    let per_leaf = block_capacity(kind, version, 0, size);
-    let per_node = block_capacity(kind, version, 1, size);
-    plan_levels(per_leaf as u64, per_node as u64, records)
+    let p = plan_levels(g, kind, records);
+    let blocks = p.blocks;
+    let total = p.total;
+    if p.few {
+        return Planned {
+            answer: PlanAnswer::Levels(p.levels),
+            blocks,
+            total,
+        };
+    }
+    Planned {
+        answer: PlanAnswer::TooManyLevels,
+        blocks,
+        total,
+    }
 }

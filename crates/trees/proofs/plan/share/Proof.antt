@@ -1,9 +1,11 @@
+-- `trees::plan::share` meets its contract.
+-- Assumes nothing.
 use borrow.Author.Needs.{needs}
 use borrow.Author.Tests.{lt-ltb, le-ltb}
 use native.Mathlib.Omega.{arith}
 use native.Mathlib.Nat.{div-lt-self, mod-lt, mod-le, add-zero}
-use mathlib.Core.Path.{sym, ap, _∙_}
-use Prim.Native.Nat.{ℕ, _-_, _<_, _%_}
+use mathlib.Core.Path.{sym}
+use Prim.Native.Nat.{_<_, _%_}
 use Rattle.trees.specs.Plan.{shareOf}
 use Rattle.trees.proofs.plan.share.Statement.{statement}
 use Rattle.trees.proofs.plan.share.Tie as tie
