@@ -17,8 +17,9 @@ use Rattle.trees.specs.Plan.{sum}
 use Rattle.trees.specs.PlanAnswer.{PlanIs, planOutcome, answerOutcome, levelsSaid, levelsIn}
 use Rattle.trees.specs.WalkCall.{walkOf, lent, report}
 use Rattle.trees.specs.WalkAnswer.{WalkIs, walkedReport}
-use Rattle.exports.specs.Interface.{numberOf, Says, planFigures, placesAfter}
-use Rattle.exports.specs.WalkFigures.{Reports, Leaves}
+use Rattle.exports.specs.Interface.{numberOf, Says, planFigures}
+use Rattle.exports.specs.TreeCalls.{placesAfter, PlanSays}
+use Rattle.exports.specs.WalkFigures.{Reports, WalkSays}
 
 module _ (o : Outcome (List ℕ)) (p : Planned) (is : PlanIs o p) where
   -- an accepted plan of n levels
@@ -54,19 +55,21 @@ places-kept (refused n x) l h = refl
 -- the call of a plan, on the geometry and kind that the numbers stand for
 module _ {g g′ : Geometry} {k k′ : TreeKind} (n : ℕ) {p : Planned} {r : ℕ} {said : List ℕ} (levels : List ℕ) (e : g ≡ g′) (f : k ≡ k′)
     (is : PlanIs (planOutcome g k n) p) (says : (o : Outcome (List ℕ)) → PlanIs o p → Says planFigures o r said) where
-  pub plan-done : r ≡ 0 → (levels′ : List ℕ) → levels′ ≡ p .blocks → Says planFigures (planOutcome g′ k′ n) r said × (levels′ ≡ placesAfter (planOutcome g′ k′ n) levels)
-  plan-done z levels′ q = rw (← e, ← f) (says _ is, q ∙ places-stored (planOutcome g k n) p is levels (sym (says _ is .number) ∙ z))
+  pub plan-done : r ≡ 0 → (levels′ : List ℕ) → levels′ ≡ p .blocks → PlanSays (planOutcome g′ k′ n) r said levels levels′
+  plan-done z levels′ q = rw (← e, ← f) (record { answer = says _ is; places = q ∙ places-stored (planOutcome g k n) p is levels (sym (says _ is .number) ∙ z) })
 
-  pub plan-refused : (r ≡ 0 → ⊥) → (levels′ : List ℕ) → levels′ ≡ levels → Says planFigures (planOutcome g′ k′ n) r said × (levels′ ≡ placesAfter (planOutcome g′ k′ n) levels)
-  plan-refused z levels′ q = rw (← e, ← f) (says _ is, q ∙ places-kept (planOutcome g k n) levels (λ h. z (says _ is .number ∙ h)))
+  pub plan-refused : (r ≡ 0 → ⊥) → (levels′ : List ℕ) → levels′ ≡ levels → PlanSays (planOutcome g′ k′ n) r said levels levels′
+  plan-refused z levels′ q = rw (← e, ← f) (record { answer = says _ is; places = q ∙ places-kept (planOutcome g k n) levels (λ h. z (says _ is .number ∙ h)) })
 
 -- the call of a walk
 pub walk-said : {g g′ : Geometry} {k k′ : TreeKind} (image : List ℕ) (root levels : ℕ)
     {w : Walked} {r : ℕ} {said stack stack′ scratch scratch′ blocks blocks′ out out′ : List ℕ} → g ≡ g′ → k ≡ k′
     → WalkIs (recordLen k) levels (walkOf g k image root levels (lent stack scratch blocks out)) w stack stack′ scratch scratch′ blocks blocks′ out out′
     → Reports (walkedReport w) r said
-    → Reports (report (recordLen k′) (walkOf g′ k′ image root levels (lent stack scratch blocks out))) r said
-    × Leaves levels (walkOf g′ k′ image root levels (lent stack scratch blocks out)) stack stack′ scratch scratch′ blocks blocks′ out out′
+    → WalkSays (recordLen k′) levels (walkOf g′ k′ image root levels (lent stack scratch blocks out)) r said stack stack′ scratch scratch′ blocks blocks′ out out′
 walk-said image root levels e f is says =
     rw (← e, ← f)
-    (rw (← is .answer) says, record { stack-is = is .stack-is; scratch-is = is .scratch-is; blocks-are = is .blocks-are; records-are = is .records-are })
+    (record {
+      answer = rw (← is .answer) says;
+      leaves = record { stack-is = is .stack-is; scratch-is = is .scratch-is; blocks-are = is .blocks-are; records-are = is .records-are };
+    })

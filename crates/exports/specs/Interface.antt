@@ -14,7 +14,6 @@ use Rattle.blocks.specs.declared.kind.TreeKind.{TreeKind}
 use Rattle.blocks.specs.declared.kind.TreeKind.the-variants as kinds
 use Rattle.blocks.specs.declared.check.Header.{Header}
 use Rattle.trees.specs.Plan.{sum}
-use Rattle.trees.specs.PlanAnswer.{placesOf}
 use Rattle.lists.specs.declared.Lengths.{Lengths}
 use Rattle.groups.specs.declared.Sizes.{Sizes}
 use Rattle.groups.specs.declared.BothSizes.{BothSizes}
@@ -63,11 +62,6 @@ headerFigures h = h .level ∷ h .numrecs ∷ h .body ∷ h .maxrecs ∷ []
 -- of a plan: its levels, and the blocks of all of them
 abbrev pub planFigures : List ℕ → List ℕ
 planFigures ls = length ls ∷ sum ls ∷ 0 ∷ 0 ∷ []
-
--- the nine lent places of a plan afterwards: the blocks of each level and zeros after them; a refusal leaves them as they were
-abbrev pub placesAfter : Outcome (List ℕ) → List ℕ → List ℕ
-placesAfter (done ls) levels = placesOf ls
-placesAfter (refused n v) levels = levels
 
 -- of a build: its blocks and their bytes
 abbrev pub buildFigures : ℕ → ℕ → List ℕ

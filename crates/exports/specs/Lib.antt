@@ -1,3 +1,4 @@
 pub mod Interface
+pub mod TreeCalls
 pub mod WalkFigures
 pub mod ListCalls

@@ -23,3 +23,8 @@ pub record Leaves (levels : ℕ) (o : Outcome Trace) (stack stack′ scratch scr
   pub scratch-is : scratch′ ≡ scratchAfter o scratch
   pub blocks-are : blocks′ ≡ blocksAfter levels o blocks
   pub records-are : out′ ≡ recordsAfter o out
+
+-- a walk that comes to o, of records of w bytes
+pub record WalkSays (w levels : ℕ) (o : Outcome Trace) (r : ℕ) (said stack stack′ scratch scratch′ blocks blocks′ out out′ : List ℕ) : Type 0 where
+  pub answer : Reports (report w o) r said
+  pub leaves : Leaves levels o stack stack′ scratch scratch′ blocks blocks′ out out′

@@ -53,7 +53,8 @@ pub extern "C" fn kf_check_block(
     bytes: &[u8],
     said: &mut [u64; 4],
 ) -> u32
-    ensures { λ r. ⌜ Says headerFigures (checkBlock (geometryOf version blocksize agblocks agno «uuid_high» «uuid_low») (kindOf kind) block level (now (bytes .entry))) r (now (said .exit)) ⌝ }
+    ensures { λ r. ⌜ Says headerFigures (checkBlock (geometryOf version blocksize agblocks agno «uuid_high» «uuid_low») (kindOf kind)
+        block level (now (bytes .entry))) r (now (said .exit)) ⌝ }
 {
     let g = geometry(version, blocksize, agblocks, agno, uuid_high, uuid_low);
     let tree = tree_kind(kind);

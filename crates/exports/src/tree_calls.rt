@@ -1,13 +1,12 @@
 // Calls on whole trees.
-ghost use mathlib.Core.Path.{_≡_};
 ghost use lib.ListN.{length};
-ghost use Rattle.codec.specs.Question.{mapOutcome};
 ghost use Rattle.blocks.specs.Tree.{recordLen};
-ghost use Rattle.trees.specs.BuildCall.{buildOutcome, outAfter};
+ghost use Rattle.trees.specs.BuildCall.{buildOutcome};
 ghost use Rattle.trees.specs.PlanAnswer.{planOutcome};
-ghost use Rattle.trees.specs.WalkCall.{walkOf, lent, report};
-ghost use Rattle.exports.specs.Interface.{geometryOf, kindOf, Says, planFigures, placesAfter, buildFigures};
-ghost use Rattle.exports.specs.WalkFigures.{Reports, Leaves};
+ghost use Rattle.trees.specs.WalkCall.{walkOf, lent};
+ghost use Rattle.exports.specs.Interface.{geometryOf, kindOf};
+ghost use Rattle.exports.specs.TreeCalls.{PlanSays, BuildSays};
+ghost use Rattle.exports.specs.WalkFigures.{WalkSays};
 use crate::answers::built_answer;
 use crate::answers::planned_answer;
 use crate::answers::walked_answer;
@@ -33,8 +32,8 @@ pub extern "C" fn kf_plan(
     levels: &mut [u64; 9],
     said: &mut [u64; 4],
 ) -> u32
-    ensures { λ r. ⌜ Says planFigures (planOutcome (geometryOf version blocksize agblocks agno «uuid_high» «uuid_low») (kindOf kind) records) r (now (said .exit)) ⌝ }
-    ensures { λ _. ⌜ now (levels .exit) ≡ placesAfter (planOutcome (geometryOf version blocksize agblocks agno «uuid_high» «uuid_low») (kindOf kind) records) (now (levels .entry)) ⌝ }
+    ensures { λ r. ⌜ PlanSays (planOutcome (geometryOf version blocksize agblocks agno «uuid_high» «uuid_low») (kindOf kind) records) r
+        (now (said .exit)) (now (levels .entry)) (now (levels .exit)) ⌝ }
 {
     let g = geometry(version, blocksize, agblocks, agno, uuid_high, uuid_low);
     let tree = tree_kind(kind);
@@ -66,8 +65,10 @@ pub extern "C" fn kf_build(
     out: &mut [u8],
     said: &mut [u64; 4],
 ) -> u32
-    ensures { λ r. ⌜ Says (buildFigures (length (now (numbers .entry)))) (mapOutcome length (buildOutcome (geometryOf version blocksize agblocks agno «uuid_high» «uuid_low») (kindOf kind) (now (list .entry)) (now (numbers .entry)) (length (now (out .entry))))) r (now (said .exit)) ⌝ }
-    ensures { λ _. ⌜ now (out .exit) ≡ outAfter (buildOutcome (geometryOf version blocksize agblocks agno «uuid_high» «uuid_low») (kindOf kind) (now (list .entry)) (now (numbers .entry)) (length (now (out .entry)))) (now (out .entry)) ⌝ }
+    ensures { λ r. ⌜ BuildSays
+        (buildOutcome (geometryOf version blocksize agblocks agno «uuid_high» «uuid_low») (kindOf kind)
+        (now (list .entry)) (now (numbers .entry)) (length (now (out .entry))))
+        (now (numbers .entry)) r (now (said .exit)) (now (out .entry)) (now (out .exit)) ⌝ }
 {
     let g = geometry(version, blocksize, agblocks, agno, uuid_high, uuid_low);
     let tree = tree_kind(kind);
@@ -98,8 +99,11 @@ pub extern "C" fn kf_walk(
     records: &mut [u8],
     said: &mut [u64; 4],
 ) -> u32
-    ensures { λ r. ⌜ Reports (report (recordLen (kindOf kind)) (walkOf (geometryOf version blocksize agblocks agno «uuid_high» «uuid_low») (kindOf kind) (now (image .entry)) root levels (lent (now (stack .entry)) (now (scratch .entry)) (now (blocks .entry)) (now (records .entry))))) r (now (said .exit)) ⌝ }
-    ensures { λ _. ⌜ Leaves levels (walkOf (geometryOf version blocksize agblocks agno «uuid_high» «uuid_low») (kindOf kind) (now (image .entry)) root levels (lent (now (stack .entry)) (now (scratch .entry)) (now (blocks .entry)) (now (records .entry)))) (now (stack .entry)) (now (stack .exit)) (now (scratch .entry)) (now (scratch .exit)) (now (blocks .entry)) (now (blocks .exit)) (now (records .entry)) (now (records .exit)) ⌝ }
+    ensures { λ r. ⌜ WalkSays (recordLen (kindOf kind)) levels
+        (walkOf (geometryOf version blocksize agblocks agno «uuid_high» «uuid_low») (kindOf kind) (now (image .entry)) root levels
+        (lent (now (stack .entry)) (now (scratch .entry)) (now (blocks .entry)) (now (records .entry))))
+        r (now (said .exit)) (now (stack .entry)) (now (stack .exit)) (now (scratch .entry)) (now (scratch .exit))
+        (now (blocks .entry)) (now (blocks .exit)) (now (records .entry)) (now (records .exit)) ⌝ }
 {
     let g = geometry(version, blocksize, agblocks, agno, uuid_high, uuid_low);
     let tree = tree_kind(kind);

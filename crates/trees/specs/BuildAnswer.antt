@@ -1,4 +1,4 @@
--- Document 01's number of each refusal of build, and what each answer says.
+-- The number of each refusal of build (docs/QUESTIONS.md), and what each answer says.
 -- Assumes nothing.
 use Prim.Native.Nat.{ℕ}
 use mathlib.Core.Path.{_≡_}

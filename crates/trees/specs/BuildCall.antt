@@ -1,4 +1,4 @@
--- What a call of build comes to: its questions in document 01's order, the bytes of the blocks, and what the output holds afterwards.
+-- What a call of build comes to: its questions in order (docs/QUESTIONS.md), the bytes of the blocks, and what the output holds afterwards.
 -- Assumes nothing.
 use Prim.Native.Nat.{ℕ, _*_}
 use mathlib.Core.Bool.{Bool}

@@ -1,4 +1,4 @@
--- Document 01's number and values of each refusal of a walk, and what each answer says.
+-- The number and values of each refusal of a walk (docs/QUESTIONS.md), and what each answer says.
 -- Assumes nothing.
 use Prim.Native.Nat.{ℕ}
 use mathlib.Core.Path.{_≡_}

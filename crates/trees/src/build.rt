@@ -28,7 +28,7 @@ use codec::check::ListRefusal;
 use codec::endian::be32;
 use codec::endian::put_be32;
 
-// Why build is refused. Document 01's number of each case is `buildNumber` of specs/BuildAnswer.antt.
+// Why build is refused. The number of each case (docs/QUESTIONS.md) is `buildNumber` of specs/BuildAnswer.antt.
 pub enum BuildRefusal {
     // the geometry is none: 1
     BadGeometry,
@@ -74,7 +74,9 @@ fn write_leaf(g: Geometry, kind: TreeKind, number: u32, count: u16, records: &[u
 // The leaves, left to right.
 fn write_leaves(g: Geometry, kind: TreeKind, list: &[u8], blocks: &[u32], out: &mut [u8])
     requires { ⌜ Leaves g kind (now list) (now blocks) (now out) ⌝ }
-    ensures { λ _. ⌜ now (out .exit) ≡ withBytes (now (out .entry)) 0 (output (blocksOf (layoutOf g kind) 0 (now (blocks .entry)) (leafParts (layoutOf g kind) (shares (length (now (list .entry)) / recordLen kind) (length (now (blocks .entry)))) (now (list .entry))))) ⌝ }
+    ensures { λ _. ⌜ now (out .exit) ≡ withBytes (now (out .entry)) 0 (output
+        (blocksOf (layoutOf g kind) 0 (now (blocks .entry)) (leafParts (layoutOf g kind)
+        (shares (length (now (list .entry)) / recordLen kind) (length (now (blocks .entry)))) (now (list .entry))))) ⌝ }
 {
     let w = kind.record_len();
     let size = g.blocksize as usize;
@@ -132,7 +134,8 @@ fn first(records: u64, levels: &[u64], level: usize, i: u64) -> u64
 // The keys of a child with the records from `from` to `to` under it.
 fn put_keys(kind: TreeKind, list: &[u8], from: usize, to: usize, b: &mut [u8], at: usize)
     requires { ⌜ Under kind (now list) from to × (at + keysLen kind ≤ length (now b)) ⌝ }
-    ensures { λ _. ⌜ now (b .exit) ≡ withBytes (now (b .entry)) at (keysUnder kind (bytesAt (now (list .entry)) (from * recordLen kind) (to * recordLen kind - from * recordLen kind))) ⌝ }
+    ensures { λ _. ⌜ now (b .exit) ≡ withBytes (now (b .entry)) at (keysUnder kind
+        (bytesAt (now (list .entry)) (from * recordLen kind) (to * recordLen kind - from * recordLen kind))) ⌝ }
 {
     match kind {
         TreeKind::Rmap => {
@@ -169,7 +172,8 @@ fn put_all_keys(
     at: usize,
 )
     requires { ⌜ Children kind (now list) (now levels) level child (now below) × (at + length (now below) * keysLen kind ≤ length (now b)) ⌝ }
-    ensures { λ _. ⌜ now (b .exit) ≡ withBytes (now (b .entry)) at (keysOf (keysUnder kind) (levelChildren kind (now (list .entry)) (now (levels .entry)) level child (now (below .entry)))) ⌝ }
+    ensures { λ _. ⌜ now (b .exit) ≡ withBytes (now (b .entry)) at (keysOf (keysUnder kind)
+        (levelChildren kind (now (list .entry)) (now (levels .entry)) level child (now (below .entry)))) ⌝ }
 {
     let n = (list.len() / kind.record_len()) as u64;
     let long = kind.keys_len();
@@ -196,7 +200,8 @@ fn write_node(
     b: &mut [u8],
 )
     requires { ⌜ Node g kind (now list) (now levels) level child (now below) (now b) ⌝ }
-    ensures { λ _. ⌜ now (b .exit) ≡ blockBytes (layoutOf g kind) (level + 1) number (nodePart (layoutOf g kind) (levelChildren kind (now (list .entry)) (now (levels .entry)) level child (now (below .entry)))) ⌝ }
+    ensures { λ _. ⌜ now (b .exit) ≡ blockBytes (layoutOf g kind) (level + 1) number
+        (nodePart (layoutOf g kind) (levelChildren kind (now (list .entry)) (now (levels .entry)) level child (now (below .entry)))) ⌝ }
 {
     let head = header_len(g.version);
     let size = g.blocksize as usize;
@@ -230,7 +235,8 @@ fn write_nodes(
     out: &mut [u8],
 )
     requires { ⌜ Nodes g kind (now list) (now levels) level (now below) (now blocks) (now out) ⌝ }
-    ensures { λ _. ⌜ now (out .exit) ≡ withBytes (now (out .entry)) 0 (output (nodesAbove g kind (now (list .entry)) (now (levels .entry)) level (now (below .entry)) (now (blocks .entry)))) ⌝ }
+    ensures { λ _. ⌜ now (out .exit) ≡ withBytes (now (out .entry)) 0 (output
+        (nodesAbove g kind (now (list .entry)) (now (levels .entry)) level (now (below .entry)) (now (blocks .entry)))) ⌝ }
 {
     let size = g.blocksize as usize;
     let m = below.len();
@@ -269,7 +275,8 @@ fn write_levels(
     out: &mut [u8],
 )
     requires { ⌜ Tree g kind (now list) (now levels) (now numbers) (now out) ⌝ }
-    ensures { λ _. ⌜ now (out .exit) ≡ withBytes (now (out .entry)) (getD (now (levels .entry)) 0 0 * g .blocksize) (output (levelsAbove g kind (now (list .entry)) (now (levels .entry)) (now (numbers .entry)))) ⌝ }
+    ensures { λ _. ⌜ now (out .exit) ≡ withBytes (now (out .entry)) (getD (now (levels .entry)) 0 0 * g .blocksize)
+        (output (levelsAbove g kind (now (list .entry)) (now (levels .entry)) (now (numbers .entry)))) ⌝ }
 {
     let size = g.blocksize as usize;
     let count = levels.len();

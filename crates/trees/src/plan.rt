@@ -11,7 +11,7 @@ use blocks::geometry::Geometry;
 use blocks::kind::TreeKind;
 use blocks::kind::block_capacity;
 
-// What a plan comes to. Document 01's numbers are in `answerOutcome` of specs/PlanAnswer.antt.
+// What a plan comes to. The numbers (docs/QUESTIONS.md) are in `answerOutcome` of specs/PlanAnswer.antt.
 pub enum PlanAnswer {
     // the number of levels
     Levels(usize),

@@ -27,7 +27,7 @@ use blocks::kind::TreeKind;
 use blocks::kind::block_capacity;
 use codec::endian::be32;
 
-// Why a walk is refused. Document 01's number of each case is `walkNumber` of specs/WalkAnswer.antt.
+// Why a walk is refused. The number of each case (docs/QUESTIONS.md) is `walkNumber` of specs/WalkAnswer.antt.
 pub enum WalkRefusal {
     // there are not 1 to 9 levels: 11
     Levels,
@@ -96,7 +96,8 @@ fn enter_leaf(
 ) -> Step
     requires { ⌜ (places ≤ length (now scratch)) × (c .bytes ≤ length (now out)) ⌝ }
     ensures { λ r. ⌜ stepOutcome r ≡ stepOf places (length (now (out .entry))) c (good [] (now (bytes .entry))) ⌝ }
-    ensures { λ r. ⌜ (now (scratch .exit) ≡ onward (stepOutcome r) (now (scratch .entry)) (c .visits) (block ∷ [])) × (now (out .exit) ≡ onward (stepOutcome r) (now (out .entry)) (c .bytes) (now (bytes .entry))) ⌝ }
+    ensures { λ r. ⌜ (now (scratch .exit) ≡ onward (stepOutcome r) (now (scratch .entry)) (c .visits) (block ∷ []))
+        × (now (out .exit) ≡ onward (stepOutcome r) (now (out .entry)) (c .bytes) (now (bytes .entry))) ⌝ }
 {
     let due = c.due;
     let visits = c.visits;
@@ -131,7 +132,8 @@ fn enter_node(
 ) -> Step
     requires { ⌜ (first + n * 4 ≤ length (now part)) × ((c .due + n) * 2 ≤ length (now stack)) × (places ≤ length (now scratch)) × (0 < level) ⌝ }
     ensures { λ r. ⌜ stepOutcome r ≡ stepOf places 0 c (good (pointers (now (part .entry)) first (level - 1) n) []) ⌝ }
-    ensures { λ r. ⌜ (now (scratch .exit) ≡ onward (stepOutcome r) (now (scratch .entry)) (c .visits) ((level * 2 ^ 32 + block) ∷ [])) × pending (stepOutcome r) (pointers (now (part .entry)) first (level - 1) n) (c .due) (now (stack .entry)) (now (stack .exit)) ⌝ }
+    ensures { λ r. ⌜ (now (scratch .exit) ≡ onward (stepOutcome r) (now (scratch .entry)) (c .visits) ((level * 2 ^ 32 + block) ∷ []))
+        × pending (stepOutcome r) (pointers (now (part .entry)) first (level - 1) n) (c .due) (now (stack .entry)) (now (stack .exit)) ⌝ }
 {
     let due = c.due;
     let visits = c.visits;
@@ -174,7 +176,8 @@ fn visit(
     requires { ⌜ geometryOk g ≡ true ⌝ }
     requires { ⌜ Fitting (perNode (shapeOf g kind)) (now stack) (now scratch) (now out) places c ⌝ }
     ensures { λ r. ⌜ stepOutcome r ≡ stepOf places (length (now (out .entry))) c (lookIn (shapeOf g kind) (now (image .entry)) (visitOf block level)) ⌝ }
-    ensures { λ r. ⌜ Wrote (stepOutcome r) (visitOf block level) (lookIn (shapeOf g kind) (now (image .entry)) (visitOf block level)) c (now (stack .entry)) (now (stack .exit)) (now (scratch .entry)) (now (scratch .exit)) (now (out .entry)) (now (out .exit)) ⌝ }
+    ensures { λ r. ⌜ Wrote (stepOutcome r) (visitOf block level) (lookIn (shapeOf g kind) (now (image .entry)) (visitOf block level)) c
+        (now (stack .entry)) (now (stack .exit)) (now (scratch .entry)) (now (scratch .exit)) (now (out .entry)) (now (out .exit)) ⌝ }
 {
     let size = g.blocksize as usize;
     let start = (block as usize) * size;
@@ -222,8 +225,10 @@ fn descend(
 ) -> Walked
     requires { ⌜ Begun (geometryOk g) (shapeOf g kind) levels (now stack) (now scratch) places ⌝ }
     requires { ⌜ limit < 2 ^ 63 ⌝ }
-    ensures { λ r. ⌜ walkedReport r ≡ report (recordLen kind) (done (walkIn (shapeOf g kind) (now (image .entry)) root levels limit places (length (now (out .entry))))) ⌝ }
-    ensures { λ r. ⌜ left r (walkIn (shapeOf g kind) (now (image .entry)) root levels limit places (length (now (out .entry)))) (now (scratch .exit)) (now (out .entry)) (now (out .exit)) ⌝ }
+    ensures { λ r. ⌜ walkedReport r ≡ report (recordLen kind) (done (walkIn (shapeOf g kind) (now (image .entry)) root levels limit places
+        (length (now (out .entry))))) ⌝ }
+    ensures { λ r. ⌜ left r (walkIn (shapeOf g kind) (now (image .entry)) root levels limit places (length (now (out .entry)))) (now (scratch .exit))
+        (now (out .entry)) (now (out .exit)) ⌝ }
 {
     stack[0] = root;
     stack[1] = levels - 1;
@@ -295,7 +300,8 @@ fn keep(place: u64, level: u64, list: &mut [u32], k: usize) -> usize
 // Stores the blocks of one level, in the order met, from a place of the list on; returns the place after them.
 fn gather(scratch: &[u64], n: usize, level: u64, list: &mut [u32], at: usize) -> usize
     requires { ⌜ (n ≤ length (now scratch)) × (at + length (levelIn level (take n (now scratch))) ≤ length (now list)) ⌝ }
-    ensures { λ r. ⌜ (r ≡ at + length (levelIn level (take n (now (scratch .entry))))) × (now (list .exit) ≡ withBytes (now (list .entry)) at (levelIn level (take n (now (scratch .entry))))) ⌝ }
+    ensures { λ r. ⌜ (r ≡ at + length (levelIn level (take n (now (scratch .entry)))))
+        × (now (list .exit) ≡ withBytes (now (list .entry)) at (levelIn level (take n (now (scratch .entry))))) ⌝ }
 {
     let mut k = at;
     let mut i = 0;
@@ -322,7 +328,8 @@ fn order(scratch: &[u64], n: usize, levels: u64, list: &mut [u32])
 // After a finished walk: the block list by level, and both scratches zero.
 fn finish(visits: usize, levels: u64, stack: &mut [u32], scratch: &mut [u64], blocks: &mut [u32])
     requires { ⌜ (visits ≤ length (now scratch)) × (visits ≤ length (now blocks)) ⌝ }
-    ensures { λ _. ⌜ (now (blocks .exit) ≡ withBytes (now (blocks .entry)) 0 (byLevel levels (seenOf (take visits (now (scratch .entry)))))) × (now (stack .exit) ≡ zeros (now (stack .entry))) × (now (scratch .exit) ≡ zeros (now (scratch .entry))) ⌝ }
+    ensures { λ _. ⌜ (now (blocks .exit) ≡ withBytes (now (blocks .entry)) 0 (byLevel levels (seenOf (take visits (now (scratch .entry))))))
+        × (now (stack .exit) ≡ zeros (now (stack .entry))) × (now (scratch .exit) ≡ zeros (now (scratch .entry))) ⌝ }
 {
     order(scratch, visits, levels, blocks);
     clear32(stack);
@@ -331,7 +338,8 @@ fn finish(visits: usize, levels: u64, stack: &mut [u32], scratch: &mut [u64], bl
 
 // After a refused walk: zeros throughout.
 fn wipe(stack: &mut [u32], scratch: &mut [u64], blocks: &mut [u32], out: &mut [u8])
-    ensures { λ _. ⌜ (now (stack .exit) ≡ zeros (now (stack .entry))) × (now (scratch .exit) ≡ zeros (now (scratch .entry))) × (now (blocks .exit) ≡ zeros (now (blocks .entry))) × (now (out .exit) ≡ zeros (now (out .entry))) ⌝ }
+    ensures { λ _. ⌜ (now (stack .exit) ≡ zeros (now (stack .entry))) × (now (scratch .exit) ≡ zeros (now (scratch .entry)))
+        × (now (blocks .exit) ≡ zeros (now (blocks .entry))) × (now (out .exit) ≡ zeros (now (out .entry))) ⌝ }
 {
     clear32(stack);
     clear64(scratch);
@@ -354,7 +362,9 @@ fn walk_tree(
 ) -> Walked
     requires { ⌜ Begun (geometryOk g) (shapeOf g kind) levels (now stack) (now scratch) (length (now blocks)) ⌝ }
     requires { ⌜ limit < 2 ^ 63 ⌝ }
-    ensures { λ r. ⌜ WalkIs (recordLen kind) levels (done (walkIn (shapeOf g kind) (now (image .entry)) root levels limit (length (now (blocks .entry))) (length (now (out .entry))))) r (now (stack .entry)) (now (stack .exit)) (now (scratch .entry)) (now (scratch .exit)) (now (blocks .entry)) (now (blocks .exit)) (now (out .entry)) (now (out .exit)) ⌝ }
+    ensures { λ r. ⌜ WalkIs (recordLen kind) levels (done (walkIn (shapeOf g kind) (now (image .entry)) root levels limit
+        (length (now (blocks .entry))) (length (now (out .entry))))) r (now (stack .entry)) (now (stack .exit)) (now (scratch .entry))
+        (now (scratch .exit)) (now (blocks .entry)) (now (blocks .exit)) (now (out .entry)) (now (out .exit)) ⌝ }
 {
     let places = blocks.len();
     let end = descend(
@@ -407,7 +417,9 @@ pub fn walk(
     blocks: &mut [u32],
     records: &mut [u8],
 ) -> Walked
-    ensures { λ r. ⌜ WalkIs (recordLen kind) levels (walkOf g kind (now (image .entry)) (root .0) levels (lent (now (stack .entry)) (now (scratch .entry)) (now (blocks .entry)) (now (records .entry)))) r (now (stack .entry)) (now (stack .exit)) (now (scratch .entry)) (now (scratch .exit)) (now (blocks .entry)) (now (blocks .exit)) (now (records .entry)) (now (records .exit)) ⌝ }
+    ensures { λ r. ⌜ WalkIs (recordLen kind) levels (walkOf g kind (now (image .entry)) (root .0) levels
+        (lent (now (stack .entry)) (now (scratch .entry)) (now (blocks .entry)) (now (records .entry)))) r (now (stack .entry)) (now (stack .exit))
+        (now (scratch .entry)) (now (scratch .exit)) (now (blocks .entry)) (now (blocks .exit)) (now (records .entry)) (now (records .exit)) ⌝ }
 {
     if !g.is_ok() {
         return Walked::Refused {

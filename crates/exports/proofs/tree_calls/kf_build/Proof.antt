@@ -23,7 +23,7 @@ same-length c = search needs
 returns : tie.Need-returns
 returns c =
     let e = c .before .before .before .before .build .ensures in
-    rw (← c .before .before .before .before .before .before .before .geometry .ensures, ← c .before .before .before .before .before .before .tree-kind .ensures) (rw (← e .outcome) (c .before .built-answer .ensures), e .output)
+    rw (← c .before .before .before .before .before .before .before .geometry .ensures, ← c .before .before .before .before .before .before .tree-kind .ensures) (record { answer = rw (← e .outcome) (c .before .built-answer .ensures); wrote = e .output })
 
 pub kf-build-spec : {M : Type 1} → statement M
 kf-build-spec = tie.close (tie.spec geometry-requires tree-kind-requires build-requires built-answer-requires same-length returns)
