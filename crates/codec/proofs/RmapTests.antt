@@ -5,7 +5,7 @@ use native.Mathlib.Nat.{div-div-eq-div-mul}
 use mathlib.Core.Path.{_≡_, refl, ap, sym, _∙_}
 use mathlib.Core.Bool.{Bool, true, false, not, _||_}
 use lib.Dec.{ltb, eqb}
-use borrow.Author.Tests.{lt-ltb, le-leb, lt-leb, eq-eqb, ne-eqb}
+use borrow.Author.Tests.{lt-ltb, le-ltb, le-leb, lt-leb, eq-eqb, ne-eqb}
 use Rattle.codec.specs.declared.rmap.Rmap.{Rmap}
 use Rattle.codec.specs.Rmaps.{end, fileOffset, reserved, mapping, exempt, keyOffset, before, good, follows}
 
@@ -14,9 +14,12 @@ module _ (r s : Rmap) where
   unfolding before
   before-start h = simp (ne-eqb _ _ h)
 
-  pub before-owner : r .startblock ≡ s .startblock → (r .owner ≡ s .owner → ⊥) → ltb (r .owner) (s .owner) ≡ before r s
+  -- a test that tells the lower owner, as it is stored
+  pub before-owner : r .startblock ≡ s .startblock → (r .owner ≡ s .owner → ⊥)
+      → (t : Bool) → (t ≡ true → r .owner < s .owner) → (t ≡ false → s .owner ≤ r .owner) → t ≡ before r s
   unfolding before
-  before-owner a h = simp (eq-eqb _ _ a, ne-eqb _ _ h)
+  before-owner a h true lower upper = simp (eq-eqb _ _ a, ne-eqb _ _ h) (sym (lt-ltb _ _ (lower refl)))
+  before-owner a h false lower upper = simp (eq-eqb _ _ a, ne-eqb _ _ h) (sym (le-ltb _ _ (upper refl)))
 
   pub before-offset : r .startblock ≡ s .startblock → r .owner ≡ s .owner → (a b : ℕ) → a ≡ keyOffset (r .offset) → b ≡ keyOffset (s .offset) → ltb a b ≡ before r s
   unfolding before

@@ -15,7 +15,7 @@ use trees::plan::PlanAnswer;
 use trees::plan::Planned;
 use trees::plan::plan;
 
-// Any answer is shorter than this.
+// No answer is longer than this.
 pub const ROOM: usize = 640;
 
 // A number in decimal.

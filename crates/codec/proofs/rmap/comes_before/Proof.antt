@@ -1,5 +1,7 @@
 -- `codec::rmap::comes_before` meets its contract.
 -- Assumes nothing.
+use native.Mathlib.Omega.{arith}
+use borrow.Author.Tests.{ltb-true, ltb-false}
 use Rattle.codec.proofs.RmapTests.{before-start, before-owner, before-offset}
 use borrow.Author.Needs.{needs}
 use Rattle.codec.proofs.rmap.comes_before.Statement.{statement}
@@ -9,7 +11,11 @@ returns : tie.Need-returns
 returns c = before-start _ _ (c .before .before .if1 .taken)
 
 returns-2 : tie.Need-returns-2
-returns-2 c = before-owner _ _ (c .before .before .before .before .before .if1 .left) (c .before .before .if2 .taken)
+returns-2 c =
+    let a = c .before .before .before .before .before .before .before .before .args in
+    before-owner (a .r) (a .s) (c .before .before .before .before .before .if1 .left) (c .before .before .if2 .taken) _
+    (λ q. omega (arith, ltb-true))
+    (λ q. omega (arith, ltb-false))
 
 key-offset-requires : tie.Need-key-offset-requires
 key-offset-requires c κs = search needs
