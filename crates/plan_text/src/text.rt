@@ -10,7 +10,7 @@ use crate::line::Line;
 use crate::line::read;
 use blocks::geometry::Geometry;
 use blocks::kind::TreeKind;
-use trees::memory::copy;
+use codec::copy::copy;
 use trees::plan::PlanAnswer;
 use trees::plan::Planned;
 use trees::plan::plan;

@@ -14,7 +14,6 @@ ghost use Rattle.codec.specs.ListRefusal.{listOutcome};
 ghost use Rattle.trees.specs.BuildNeeds.{Given, Under, Planned, pointerBytes, levelChildren, Leaves, Children, Node, Nodes, nodesAbove, levelsAbove, Tree, PlanGiven};
 use crate::keys::put_rmap_keys;
 use crate::memory::clear8;
-use crate::memory::copy;
 use crate::plan::plan_levels;
 use crate::plan::share;
 use blocks::geometry::AgBlock;
@@ -25,6 +24,7 @@ use blocks::kind::header_len;
 use blocks::stamp::stamp;
 use codec::check::ListChecked;
 use codec::check::ListRefusal;
+use codec::copy::copy;
 use codec::endian::be32;
 use codec::endian::put_be32;
 

@@ -1,21 +1,6 @@
-// Lent memory: a copy into it, and clearing it.
+// Lent memory cleared.
 ghost use mathlib.Core.Path.{_≡_};
-ghost use Prim.Native.Nat.{_+_, _≤_};
-ghost use lib.ListN.{length};
-ghost use Rattle.codec.specs.Bytes.{withBytes};
 ghost use Rattle.trees.specs.WalkState.{zeros};
-
-// Copies `src` into `dst` from a place on.
-pub fn copy(src: &[u8], dst: &mut [u8], at: usize)
-    requires { ⌜ at + length (now src) ≤ length (now dst) ⌝ }
-    ensures { λ _. ⌜ now (dst .exit) ≡ withBytes (now (dst .entry)) at (now (src .entry)) ⌝ }
-{
-    let mut i = 0;
-    while i < src.len() {
-        dst[at + i] = src[i];
-        i += 1;
-    }
-}
 
 // Zeros throughout.
 pub(crate) fn clear8(s: &mut [u8])

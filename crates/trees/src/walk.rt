@@ -17,7 +17,6 @@ ghost use Rattle.trees.specs.WalkAnswer.{stepOutcome, walkedReport, left
 use crate::memory::clear8;
 use crate::memory::clear32;
 use crate::memory::clear64;
-use crate::memory::copy;
 use blocks::check::BlockRefusal;
 use blocks::check::Checked;
 use blocks::check::check_block;
@@ -25,6 +24,7 @@ use blocks::geometry::AgBlock;
 use blocks::geometry::Geometry;
 use blocks::kind::TreeKind;
 use blocks::kind::block_capacity;
+use codec::copy::copy;
 use codec::endian::be32;
 
 // Why a walk is refused. The number of each case (docs/QUESTIONS.md) is `walkNumber` of specs/WalkAnswer.antt.

@@ -1,3 +1,5 @@
+-- `codec::copy::copy` meets its contract.
+-- Assumes nothing.
 use borrow.Author.Needs.{needs}
 use native.Mathlib.Omega.{arith}
 use native.Mathlib.Numerals.{add-one}
@@ -5,11 +7,11 @@ use mathlib.Core.Path.{_≡_, refl, sym, ap, ap₂, _∙_}
 use mathlib.Core.List.{List, _∷_, _++_}
 use Prim.Native.Nat.{ℕ, _+_, _-_, _*_, _<_, _≤_, suc}
 use lib.ListN.{length, set, getD, take, drop, length-set}
 use Rattle.codec.specs.Bytes.{withBytes}
 use Rattle.codec.proofs.Stores.{withBytes-none, copy-more, copy-done}
 use denote.Ref.{now}
-use Rattle.trees.proofs.memory.copy.Statement.{statement}
-use Rattle.trees.proofs.memory.copy.Tie as tie
+use Rattle.codec.proofs.copy.copy.Statement.{statement}
+use Rattle.codec.proofs.copy.copy.Tie as tie
 
 abbrev Inv-loop : tie.InvT-loop
 Inv-loop src dst₀ at i₀ dst i = (i ≤ length src) × (length dst ≡ length dst₀) × (dst ≡ withBytes dst₀ at (take i src))
