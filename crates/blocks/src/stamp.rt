@@ -60,8 +60,8 @@ fn stamp_identity(g: Geometry, block: AgBlock, b: &mut [u8])
     put_be32(b, 48, agno);
 }
 
-// The header of a fresh block, with its check: on version 5 the whole 56 bytes, on version 4 the first 16. The check is over all of `b`, so
-// what stands after the header has to be there already. The caller has asked questions 1 to 3.
+// The header of a fresh block, with its check: on version 5 the whole 56 bytes, on version 4, which has neither kind of today, the first 16.
+// The check is over all of `b`, so what stands after the header has to be there already. The caller has asked questions 1 to 3.
 pub fn stamp(
     g: Geometry,
     kind: TreeKind,

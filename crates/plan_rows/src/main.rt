@@ -3,33 +3,35 @@
 use plan_text::text::respond;
 use show::places::all8;
 
+fn put(s: &[u8]) {
+    io::write_all(1, s);
+}
+
 // One byte of an input.
 fn put_byte(b: u8) {
-    let one = [b];
     match b {
-        9 => io::write_all(1, b"\\t"),
-        10 => io::write_all(1, b"\\n"),
-        13 => io::write_all(1, b"\\r"),
-        _ => io::write_all(1, &one),
+        9 => put(b"\\t"),
+        10 => put(b"\\n"),
+        13 => put(b"\\r"),
+        _ => put(&[b]),
     }
-    ;
 }
 
 // An input in quotes.
 fn quote(s: &[u8]) {
-    io::write_all(1, b"\"");
+    put(b"\"");
     let mut i = 0;
     while i < s.len() {
         put_byte(s[i]);
         i += 1;
     }
-    io::write_all(1, b"\"\n");
+    put(b"\"\n");
 }
 
 // Says so where a byte of the buffer was written that is no part of the answer.
 fn untouched(rest: &[u8]) {
     if !all8(rest, 0xEE) {
-        io::write_all(1, b"written past the answer\n");
+        put(b"written past the answer\n");
     }
 }
 
@@ -37,7 +39,7 @@ fn row(input: &[u8]) {
     let mut out = [0xEEu8; 650];
     let k = respond(input, &mut out);
     quote(input);
-    io::write_all(1, &out[..k]);
+    put(&out[..k]);
     untouched(&out[k..]);
 }
 
@@ -47,7 +49,7 @@ fn short_row(input: &[u8]) {
     let k = respond(input, &mut out);
     quote(input);
     io::print_decimal(1, k as u64);
-    io::write_all(1, b" bytes of 639\n");
+    put(b" bytes of 639\n");
     untouched(&out);
 }
 
@@ -59,7 +61,7 @@ fn plans() {
     row(b"rmap 4096 15289");
     row(b"refcount 4096 336\n");
     row(b"refcount 4096 337");
-    // zeros in front are digits, up to 18 of them
+    // zeros in front are digits; a number has up to 18
     row(b"rmap 04096 1000");
     row(b"rmap 000000000000004096 000000000000001000\n");
     row(b"refcount 65536 999999999999999999");
