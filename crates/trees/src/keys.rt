@@ -13,10 +13,10 @@ use codec::endian::put_be64;
 use codec::rmap::Rmap;
 
 // A key: start, owner and the whole offset of a record.
-pub(crate) struct RmapKey {
-    pub(crate) start: u32,
-    pub(crate) owner: u64,
-    pub(crate) offset: u64,
+struct RmapKey {
+    start: u32,
+    owner: u64,
+    offset: u64,
 }
 
 // One more than the largest file offset.

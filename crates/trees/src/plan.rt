@@ -39,7 +39,7 @@ pub(crate) struct LevelPlan {
 }
 
 // a / b, rounded up.
-pub(crate) fn ceil_div(a: u64, b: u64) -> u64
+fn ceil_div(a: u64, b: u64) -> u64
     requires { ⌜ 0 < b ⌝ }
     ensures { λ r. ⌜ r ≡ ceil a b ⌝ }
 {

@@ -57,14 +57,14 @@ pub enum Walked {
 }
 
 // The pairs on the stack, the blocks read and the record bytes stored so far.
-pub(crate) struct Count {
-    pub(crate) due: usize,
-    pub(crate) visits: usize,
-    pub(crate) bytes: usize,
+struct Count {
+    due: usize,
+    visits: usize,
+    bytes: usize,
 }
 
 // The counts after a visit, or the refusal that ends the walk.
-pub(crate) enum Step {
+enum Step {
     Next(Count),
     Stop(WalkRefusal),
 }
