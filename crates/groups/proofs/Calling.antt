@@ -122,3 +122,7 @@ first-promised = record { said = refl; wrote = refl }
 
 pub first-tied : Tied none-held first-call
 first-tied = every-call none-held first-call first-promised
+
+-- and as calls in a row
+pub first-run : onwards none-held (first-call ∷ []) ≡ run none-held (changesOf (first-call ∷ []))
+first-run = every-calls none-held (first-call ∷ []) (first-promised, tt)

@@ -23,7 +23,7 @@ use Rattle.codec.proofs.ListBytes.{storable-recordsOf, isBytes-bytesOf}
 use Rattle.lists.specs.Extent as extent
 use Rattle.lists.specs.Extent.{over, within, goodExtent}
 use Rattle.lists.specs.Release.{owners, clear, unshared, stop, piece, middle, clamp, lowered, lowerAll, alike, continues, joined, joinFrom, joinAll, release}
-use Rattle.lists.specs.Raise.{raiseAll, raise, ownersFit, raiseOutcome}
+use Rattle.lists.specs.Raise.{raised, raiseAll, raise, full, ownersFit, raiseOutcome}
 use Rattle.lists.specs.Edits.{countQuestions, fits, Freed, releaseOutcome}
 use Rattle.lists.specs.Settled.{PartedFrom, Parted, staged, Settled, EveryRelease, EveryRaise}
 use Rattle.lists.proofs.Cases.{split, tests, conj, over-facts, facts-over, within-in, within-right, within-not}
@@ -171,7 +171,7 @@ raise-settled c start count m h e =
     subst (Settled l) (k .1)
     (raise-settles start count l (omega tests) (q .1 .0) (storable-recordsOf refcounts refcounts-lawful c h))
 
--- ---- an instance
+-- ---- instances
 
 -- start / count / owners
 abbrev countOf : ℕ → ℕ → ℕ → Refcount
@@ -191,3 +191,14 @@ row = refl
 
 pub row-settled : Settled (recordsOf refcounts (bytesOf refcounts before)) after
 row-settled = release-settled (bytesOf refcounts before) 0 4 24 0 (record { counts = after; free = [] }) (isBytes-bytesOf refcounts refcounts-lawful before) row
+
+-- 4/4 of what is left taken once more: 0/4/2, 4/4/3, and staging as it was
+abbrev lifted : List Refcount
+lifted = countOf 0 4 2 ∷ countOf 4 4 3 ∷ countOf (2 ^ 31 + 20) 2 1 ∷ []
+
+raise-row : raiseOutcome (bytesOf refcounts after) 4 4 ≡ done lifted
+unfolding raiseOutcome goodExtent bytes.beOf bytes.beBytes records.fieldsOf records.fieldBytes records.firstRecords records.recordsOf records.bytesOf accepted.whole accepted.inOrder refcount.staging refcount.good refcount.follows over within clear piece clamp alike continues joinFrom joinAll raised raiseAll full ownersFit
+raise-row = refl
+
+pub raise-row-settled : Settled (recordsOf refcounts (bytesOf refcounts after)) lifted
+raise-row-settled = raise-settled (bytesOf refcounts after) 4 4 lifted (isBytes-bytesOf refcounts refcounts-lawful after) raise-row
