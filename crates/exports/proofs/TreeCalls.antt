@@ -15,7 +15,7 @@ use Rattle.trees.specs.declared.plan.Planned.{Planned}
 use Rattle.trees.specs.declared.walk.Walked.{Walked}
 use Rattle.trees.specs.Plan.{sum}
 use Rattle.trees.specs.PlanAnswer.{PlanIs, planOutcome, answerOutcome, levelsSaid, levelsIn}
-use Rattle.trees.specs.WalkCall.{walkOf, lent, report}
+use Rattle.trees.specs.WalkCall.{walkOf, lent}
 use Rattle.trees.specs.WalkAnswer.{WalkIs, walkedReport}
 use Rattle.exports.specs.Interface.{numberOf, Says, planFigures}
 use Rattle.exports.specs.TreeCalls.{placesAfter, PlanSays}

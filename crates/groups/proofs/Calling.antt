@@ -1,21 +1,26 @@
 -- The bytes that a caller of `insert`, `take_held` and `let_go` goes on with are the lists of the history; from the contracts alone.
 -- Assumes nothing.
-use Prim.Native.Nat.{ℕ}
+use Prim.Native.Nat.{ℕ, _+_}
 use mathlib.Core.Path.{_≡_, refl, sym, ap, ap₂, subst, _∙_}
 use mathlib.Core.List.{List, [], _∷_, _++_}
 use native.Mathlib.Omega.{arith}
 use lib.ListN.{length, replicate}
 use lib.ListN as bytes
-use Rattle.codec.specs.Bytes.{beBytes, withBytes}
+use Rattle.codec.specs.Bytes as bytes-in
+use Rattle.codec.specs.Bytes.{withBytes}
 use Rattle.codec.specs.Question.{Outcome, done, refused, mapOutcome}
 use Rattle.codec.specs.Accepted as accepted
 use Rattle.codec.specs.Rmaps as rmap
+use Rattle.codec.specs.Refcounts as refcount
 use Rattle.codec.specs.Records as records
 use Rattle.codec.specs.Records.{Kind, bytesOf, RmapFits, rmaps, refcounts, freeExtents}
 use Rattle.codec.specs.declared.rmap.Rmap.{Rmap}
-use Rattle.lists.specs.Holders.{holders}
+use Rattle.lists.specs.Extent as blocks
+use Rattle.lists.specs.Holders as holding
 use Rattle.lists.specs.Held as held
 use Rattle.lists.specs.RmapEdits as edits
+use Rattle.lists.specs.Release as release
+use Rattle.lists.specs.Raise as raise
 use Rattle.lists.specs.declared.Edited.{Edited}
 use Rattle.lists.specs.declared.Edited.the-variants as edited
 use Rattle.lists.specs.Edits.{insertOutcome, written}
@@ -32,8 +37,8 @@ use Rattle.groups.specs.Answer.{sizesOf, GoneIs}
 use Rattle.groups.specs.TakeHeld.{Both, takeHeldOutcome}
 use Rattle.groups.specs.TakeHeldAnswer.{bothSizesOf, BothIs}
 use Rattle.groups.specs.History.{Lists, Accepted, Agreeing, Left, took, tookHeld, went, step, after, run, Start}
-use Rattle.groups.specs.Calls.{Buffer, Call, Promised, Tied, inserting, takingHeld, lettingGo, front, listsOf, onward, offeredBytes, offered, EveryCall, AllPromised, changesOf, onwards, EveryCalls}
-use Rattle.groups.proofs.Example.{record-of, small-fits, none-held}
+use Rattle.groups.specs.Calls.{Buffer, Call, Tied, inserting, takingHeld, lettingGo, front, listsOf, onward, offeredBytes, offered, EveryCall, AllPromised, changesOf, onwards, EveryCalls}
+use Rattle.groups.proofs.Example.{record-of, free-at, small-fits, none-held, first-lists, shared-lists, last-lists}
 use Rattle.groups.proofs.History.{history}
 
 -- the front of a buffer that was written
@@ -108,21 +113,33 @@ callers-lists σ ks s h =
     let c = history σ (changesOf ks) s in
     subst (λ (τ : Lists). Accepted τ × Agreeing τ) (sym (every-calls σ ks h)) (c .accepted, c .agree)
 
--- ---- an instance: the example's first change, with 26 bytes lent, of which the last two stay
+-- ---- an instance: the example's first, second and fourth change as calls, with buffers of which the last bytes stay
 
-abbrev lent : Buffer
-lent = record { entry = replicate 26 255; exit = bytesOf rmaps (record-of 0 4 7 0 ∷ []) ++ replicate 2 255 }
+abbrev lent : List ℕ → ℕ → Buffer
+lent b n = record { entry = replicate (length b + n) 255; exit = b ++ replicate n 255 }
 
 abbrev first-call : Call
-first-call = inserting (record-of 0 4 7 0) (small-fits 0 4 7 0 (omega arith)) (edited.Done 24) lent
+first-call = inserting (record-of 0 4 7 0) (small-fits 0 4 7 0 (omega arith)) (edited.Done 24) (lent (first-lists .map) 2)
 
-first-promised : Promised none-held first-call
-unfolding none-held insertOutcome written withBytes beBytes records.fieldBytes records.firstRecords records.recordsOf records.bytesOf accepted.whole accepted.inOrder rmap.exempt rmap.reserved rmap.mapping rmap.good held.eachBlock holders edits.attach edits.insert
-first-promised = record { said = refl; wrote = refl }
+abbrev second-call : Call
+second-call =
+    takingHeld (record-of 1 2 9 0) (small-fits 1 2 9 0 (omega arith)) (taken.Done (record { map = 48; counts = 12 })) (lent (shared-lists .map) 1) (lent (shared-lists .counts) 3)
+
+abbrev fourth-call : Call
+fourth-call =
+    lettingGo (record-of 0 4 7 0) (gone.Done (record { map = 24; counts = 0; free = 16 })) (lent (last-lists .map) 0) (lent (last-lists .counts) 5)
+    (lent (bytesOf freeExtents (free-at 0 1 ∷ free-at 3 1 ∷ [])) 4)
+
+abbrev calls : List Call
+calls = first-call ∷ second-call ∷ fourth-call ∷ []
+
+all-promised : AllPromised none-held calls
+unfolding none-held insertOutcome takeHeldOutcome letGoOutcome bytes-in.beOf bytes-in.beBytes records.fieldsOf records.fieldBytes records.firstRecords records.recordsOf records.bytesOf accepted.whole accepted.inOrder rmap.reserved rmap.mapping rmap.exempt rmap.good rmap.keyOffset rmap.before rmap.follows refcount.staging refcount.good refcount.follows blocks.over blocks.within blocks.grow blocks.runs holding.holders held.eachBlock edits.first edits.isSome edits.replace edits.place edits.continues edits.overlaps edits.attach edits.insertAfter edits.insert edits.clash edits.behind edits.ahead edits.contains edits.linesUp edits.chosen edits.front edits.later edits.placeLater edits.cutOut release.owners release.clear release.piece release.middle release.clamp release.lowered release.lowerAll release.alike release.continues release.joinFrom release.joinAll raise.raised raise.raiseAll raise.full raise.ownersFit written withBytes
+all-promised =
+    (record { said = refl; wrote = refl }, (record { said = refl; map = refl; counts = refl }, (record { said = refl; map = refl; counts = refl; extents = refl }, tt)))
 
 pub first-tied : Tied none-held first-call
-first-tied = every-call none-held first-call first-promised
+first-tied = every-call none-held first-call (all-promised .0)
 
--- and as calls in a row
-pub first-run : onwards none-held (first-call ∷ []) ≡ run none-held (changesOf (first-call ∷ []))
-first-run = every-calls none-held (first-call ∷ []) (first-promised, tt)
+pub calls-run : onwards none-held calls ≡ run none-held (changesOf calls)
+calls-run = every-calls none-held calls all-promised

@@ -21,6 +21,7 @@ use Rattle.trees.specs.Build.{planOf}
 use Rattle.trees.specs.WalkCall.{Lent}
 use Rattle.trees.specs.Shapes.{shapeOf}
 use Rattle.trees.specs.RoundTrip.{levelsFor, LongEnough}
+use Rattle.trees.proofs.BlockBytes.{zero-bytes}
 use Rattle.groups.specs.History.{Lists, Stored, Back, Returned}
 use Rattle.groups.proofs.Example.{last-lists, shares}
 use Rattle.groups.proofs.History.{sharing-claim}
@@ -31,17 +32,12 @@ geometry = record { version = 5; blocksize = 512; agblocks = 0; agno = 0; «meta
 abbrev image : List ℕ
 image = replicate 512 0
 
-zeros-small : (n i : ℕ) → getD (replicate n 0) i 0 < 256
-zeros-small zero i = omega arith
-zeros-small (suc n) zero = omega arith
-zeros-small (suc n) (suc i) = zeros-small n i
-
 zero-fits : (i : ℕ) → getD (0 ∷ []) i 0 < 2 ^ 32
 zero-fits zero = omega arith
 zero-fits (suc i) = omega arith
 
 geometry-fits : Fits geometry
-geometry-fits = record { agno-fits = omega arith; agblocks-fits = omega arith; uuid-long = refl; uuid-bytes = zeros-small 16 }
+geometry-fits = record { agno-fits = omega arith; agblocks-fits = omega arith; uuid-long = refl; uuid-bytes = zero-bytes 16 }
 
 image-length : length image ≡ 512
 image-length = refl

@@ -20,7 +20,7 @@ use Rattle.lists.proofs.Counts as C
 use Rattle.lists.proofs.Counts.{OfKind, Good, From, continues-is, at, at-left, owners-at, weaken, accepted-facts}
 use Rattle.lists.proofs.Raising.{kind-some, Lifted, raise-lifts}
 use Rattle.lists.proofs.Laws.{LetGo, release-lets}
-use Rattle.lists.proofs.Settling.{staged-at, release-settles, raise-settles}
+use Rattle.lists.proofs.Settling.{staged-at, release-settles, raise-settles, countOf}
 
 -- ---- the places of a list
 
@@ -84,9 +84,6 @@ module _ (d : ℕ) (r s : Refcount) (l m : List Refcount) (h : From d (r ∷ l))
 parted-rest : (r : Refcount) (l : List Refcount) → PartedFrom r l → Parted l
 parted-rest r [] p = tt
 parted-rest r (s ∷ l) p = p .1
-
-abbrev countOf : ℕ → ℕ → ℕ → Refcount
-countOf s c n = record { startblock = s; blockcount = c; refcount = n }
 
 only : (d : ℕ) (l m : List Refcount) → From d l → From d m → Parted l → Parted m → ((b : ℕ) → at l b ≡ at m b) → l ≡ m
 only d [] [] h k p q e = refl

@@ -160,9 +160,9 @@ pub raise-from : (s e : ℕ) (l : List Refcount) → s ≤ e → e ≤ 2 ^ 31 �
 raise-from s e l h b k =
     rw (raiseAll-on 0 s e l (omega arith) b k) (joinAll-from 0 (raiseOn s e l) (raiseAll-from 0 s e l (omega arith) (omega arith) b k))
 
-lift-high : (s e b : ℕ) → e ≤ b → lift s e b 0 ≡ 0
+pub lift-high : (s e b n : ℕ) → e ≤ b → lift s e b n ≡ n
 unfolding lift
-lift-high s e b h = split (leb s b) (λ p. rw (p, le-ltb b e h) refl) (λ p. rw p refl)
+lift-high s e b n h = split (leb s b) (λ p. rw (p, le-ltb b e h) refl) (λ p. rw p refl)
 
 pub raise-at : (s e : ℕ) (l : List Refcount) (b : ℕ) → s ≤ e → e ≤ 2 ^ 31 → Accepted l → at (raise s e l) b ≡ lift s e b (at l b)
 raise-at s e l b h t k =
@@ -173,7 +173,7 @@ pub raise-owners : (s e : ℕ) (l : List Refcount) (b : ℕ) → s ≤ e → e �
 raise-owners s e l b h t k =
     split (ltb b (2 ^ 31))
     (λ f. let p : b < 2 ^ 31 = omega tests in rw (owners-at (raise s e l) b p, owners-at l b p) (raise-at s e l b h t k))
-    (λ f. let p : 2 ^ 31 ≤ b = omega tests in rw (owners-high 0 (raise s e l) b (raise-from s e l h t k) p, owners-high 0 l b k p, lift-high s e b (omega arith)) refl)
+    (λ f. let p : 2 ^ 31 ≤ b = omega tests in rw (owners-high 0 (raise s e l) b (raise-from s e l h t k) p, owners-high 0 l b k p, lift-high s e b 0 (omega arith)) refl)
 
 -- ---- 4 bytes hold the owners
 

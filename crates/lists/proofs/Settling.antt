@@ -29,7 +29,7 @@ use Rattle.lists.specs.Settled.{PartedFrom, Parted, staged, Settled, Eve
 use Rattle.lists.proofs.Cases.{split, tests, conj, over-facts, facts-over, within-in, within-right, within-not}
 use Rattle.lists.proofs.Counts as C
 use Rattle.lists.proofs.Counts.{OfKind, From, at, lower, release-at, release-from}
-use Rattle.lists.proofs.Raising.{lift, raise-at, raise-from}
+use Rattle.lists.proofs.Raising.{lift-high, raise-at, raise-from}
 
 -- ---- joins
 
@@ -109,10 +109,6 @@ lower-high : (s e b n : ℕ) → e ≤ b → lower s e b n ≡ n
 unfolding lower
 lower-high s e b n h = split (leb s b) (λ p. rw (p, le-ltb b e h) refl) (λ p. rw p refl)
 
-lift-high : (s e b n : ℕ) → e ≤ b → lift s e b n ≡ n
-unfolding lift
-lift-high s e b n h = split (leb s b) (λ p. rw (p, le-ltb b e h) refl) (λ p. rw p refl)
-
 -- ---- both edits
 
 module _ (start count : ℕ) (l : List Refcount) (end : start + count ≤ 2 ^ 31) (order : refcount.accepted l ≡ true) (stored : AllStorable refcounts l) where
@@ -174,7 +170,7 @@ raise-settled c start count m h e =
 -- ---- instances
 
 -- start / count / owners
-abbrev countOf : ℕ → ℕ → ℕ → Refcount
+abbrev pub countOf : ℕ → ℕ → ℕ → Refcount
 countOf s c n = record { startblock = s; blockcount = c; refcount = n }
 
 -- 0/4/3 and 4/4/2, and staging over blocks 20 and 21 in two records

@@ -1,16 +1,16 @@
 -- Laws of a call of the walk: what it leaves, finished or refused.
 -- Assumes nothing.
-use Prim.Native.Nat.{ℕ, _+_, _-_, _≤_}
+use Prim.Native.Nat.{ℕ, _-_, _≤_}
 use native.Mathlib.Omega.{arith}
-use mathlib.Core.Path.{_≡_, refl, sym, ap, _∙_, subst}
+use mathlib.Core.Path.{_≡_, refl, sym, ap, _∙_}
 use mathlib.Core.List.{List, [], _∷_}
 use lib.ListN.{length, take, replicate}
 use Rattle.codec.specs.Bytes.{withBytes}
-use Rattle.codec.specs.Question.{Values, Outcome, done, refused}
+use Rattle.codec.specs.Question.{Outcome, done, refused}
 use Rattle.trees.specs.declared.walk.Walked.{Walked}
 use Rattle.trees.specs.declared.walk.Walked.the-variants.{Read, Refused}
 use Rattle.trees.specs.declared.walk.WalkRefusal.{WalkRefusal}
-use Rattle.trees.specs.Walk.{Visit, visitOf, Trace, finished, spent, failed, met, run, fit, visits, records, byLevel, Shape, lookIn}
+use Rattle.trees.specs.Walk.{Visit, visitOf, Trace, finished, spent, failed, met, run, visits, records, byLevel, Shape, lookIn}
 use Rattle.trees.specs.WalkState.{zeros, seenOf}
 use Rattle.trees.specs.WalkCall.{Counts, Report, reportOf, report, walkIn}
 use Rattle.trees.specs.WalkAnswer.{walkNumber, walkValues, walkedReport, left, WalkIs}

@@ -1,27 +1,27 @@
 -- Laws of a look at a block of an image.
 -- Assumes nothing.
-use Prim.Native.Nat.{ℕ, zero, suc, _+_, _-_, _*_, _/_, _≤_, _<_, _^_}
-use native.Mathlib.Nat.{mul-le-mul, mul-comm, mul-add, add-sub-cancel-left, add-mul, one-mul, le-refl, le-div-iff-mul-le}
+use Prim.Native.Nat.{ℕ, zero, suc, _+_, _-_, _*_, _≤_, _<_, _^_}
+use native.Mathlib.Nat.{mul-le-mul, mul-add, add-sub-cancel-left, add-mul, one-mul, le-refl}
 use native.Mathlib.Omega.{arith}
-use mathlib.Core.Path.{_≡_, refl, sym, ap, ap₂, _∙_, subst}
-use mathlib.Core.List.{List, [], _∷_, _++_}
+use mathlib.Core.Path.{_≡_, refl, sym, ap, _∙_, subst}
+use mathlib.Core.List.{List, []}
 use mathlib.Core.Bool.{Bool, true, false, cond}
 use lib.ListN.{length, take, drop}
 use lib.Dec.{leb}
 use borrow.Author.Tests.{le-leb, lt-leb, leb-true}
-use Rattle.codec.specs.Bytes.{bytesAt, beOf}
-use Rattle.codec.specs.Question.{Values, none, Outcome, done, refused, mapOutcome, ask, answer}
+use Rattle.codec.specs.Bytes.{bytesAt}
+use Rattle.codec.specs.Question.{Values, none, Outcome, done, refused, mapOutcome}
 use Rattle.codec.proofs.Parts.{length-bytesAt}
 use Rattle.codec.proofs.Stores.{bytesAt-is}
 use Rattle.blocks.specs.declared.geometry.Geometry.{Geometry}
 use Rattle.blocks.specs.declared.kind.TreeKind.{TreeKind}
 use Rattle.blocks.specs.declared.check.Header.{Header}
 use Rattle.blocks.specs.Geometry.{geometryOk}
-use Rattle.blocks.specs.Tree.{headerLen, recordLen, keysLen, entryLen, placeLen, capacity}
+use Rattle.blocks.specs.Tree.{headerLen, recordLen, keysLen, placeLen, capacity}
 use Rattle.blocks.specs.Check.{checkBlock}
-use Rattle.blocks.proofs.Laws.{place-above, places-fit, capacity-some, capacity-small, header-fits, bounded}
+use Rattle.blocks.proofs.Laws.{place-above, places-fit, capacity-some, capacity-small, header-fits}
 use Rattle.blocks.proofs.Accepted.{Accepted, accepted}
-use Rattle.trees.specs.Walk.{Visit, visitOf, Look, bad, good, pointers, Shape, perLeaf, perNode, blockIn, firstPointer, under, lookOf, lookIn}
+use Rattle.trees.specs.Walk.{Visit, visitOf, bad, good, pointers, Shape, perNode, blockIn, firstPointer, under, lookOf, lookIn}
 use Rattle.trees.specs.Shapes.{numrecsOf, shapeOf}
 use Rattle.trees.proofs.StackLaws.{Below, pointers-length}
 use Rattle.trees.proofs.RunLaws.{Falls}

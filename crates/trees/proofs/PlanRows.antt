@@ -1,12 +1,11 @@
 -- Document 01's plans and shares worked by hand, over the definitions.
 -- Assumes nothing.
 use Prim.Native.Nat.{ℕ}
-use mathlib.Core.Path.{_≡_, refl, ap₂, _∙_}
+use mathlib.Core.Path.{_≡_, refl}
 use mathlib.Core.List.{List, [], _∷_, map}
 use Rattle.blocks.specs.declared.geometry.Geometry.{Geometry}
 use Rattle.blocks.specs.declared.kind.TreeKind.{TreeKind}
 use Rattle.blocks.specs.declared.kind.TreeKind.the-variants.{Rmap, Refcount}
-use Rattle.blocks.specs.Tree.{headerLen, recordLen, keysLen}
 use Rattle.blocks.proofs.Laws.{header-five}
 use Rattle.trees.specs.Plan.{ceil, leaves, above, levelsOf, shareOf}
 use Rattle.trees.specs.Walk.{perLeaf, perNode}

@@ -1,16 +1,14 @@
 -- Laws of every walk, over any way to look at a block: two lists of blocks one after the other, more visits, and the levels of the visits.
 -- Assumes nothing.
-use Prim.Native.Nat.{ℕ, zero, suc, _+_, _-_, _*_, _≤_, _<_}
-use native.Mathlib.Nat.{zero-add}
+use Prim.Native.Nat.{ℕ, zero, suc, _+_, _-_, _≤_, _<_}
 use native.Mathlib.Omega.{arith}
-use mathlib.Core.Path.{_≡_, refl, sym, ap, _∙_, subst}
+use mathlib.Core.Path.{_≡_, refl, ap, _∙_}
 use mathlib.Core.List.{List, [], _∷_, _++_, append-assoc}
 use mathlib.Core.Bool.{Bool, true, false, cond, _&&_}
-use lib.ListN.{length, take, drop}
-use lib.Seq.{take-append-seam, drop-append-seam}
+use lib.ListN.{length}
 use lib.Dec.{ltb, leb}
 use borrow.Author.Tests.{ltb-true}
-use Rattle.codec.specs.Question.{Values, none}
+use Rattle.codec.specs.Question.{none}
 use Rattle.trees.specs.Walk.{Visit, visitOf, Look, bad, good, Trace, finished, spent, failed, met, after, run, fit, visits, byLevel}
 use Rattle.trees.proofs.StackLaws.{Stacked, Below, stacked-push}
 use Rattle.trees.proofs.LevelLaws.{Within, by-level-all}

@@ -3,16 +3,16 @@
 use Prim.Native.Nat.{ℕ, _+_, _-_, _*_, _^_}
 use native.Mathlib.Nat.{add-zero, add-sub-cancel-left}
 use native.Mathlib.Omega.{arith}
-use mathlib.Core.Path.{_≡_, refl, sym, ap, ap₂, _∙_, subst}
-use mathlib.Core.List.{List, [], _∷_, _++_}
-use lib.ListN.{length, take, drop}
+use mathlib.Core.Path.{_≡_, refl, sym, ap, ap₂, _∙_}
+use mathlib.Core.List.{List, [], _∷_}
+use lib.ListN.{take, drop}
 use borrow.Author.Tests.{le-leb}
 use Rattle.codec.specs.Bytes.{bytesAt}
 use Rattle.codec.specs.Question.{Values, Outcome, done, refused}
 use Rattle.codec.proofs.Stores.{bytesAt-is, withBytes-none}
 use Rattle.trees.specs.declared.walk.Count.{Count}
 use Rattle.trees.specs.Walk.{Visit, visitOf, Look, bad, good}
-use Rattle.trees.specs.WalkState.{dueOf, placeOf, stepOf, onward, pending, Wrote}
+use Rattle.trees.specs.WalkState.{dueOf, stepOf, onward, pending, Wrote}
 
 -- the part of a block that the code takes is a leaf's records
 pub leaf-part : (raw part : List ℕ) (body header n r w : ℕ) → raw ≡ part → body ≡ header → r ≡ w → take (body + n * r - body) (drop body raw) ≡ bytesAt part header (n * w)

@@ -1,22 +1,21 @@
 -- Laws of the walk: one visit against the definition, and what a walk keeps from visit to visit.
 -- Assumes nothing.
-use Prim.Native.Nat.{ℕ, zero, suc, _+_, _-_, _*_, _/_, _^_, _≤_, _<_}
-use native.Mathlib.Nat.{add-zero, add-assoc}
-use native.Mathlib.Numerals.{add-one}
+use Prim.Native.Nat.{ℕ, zero, suc, _+_, _-_, _/_, _^_, _≤_, _<_}
+use native.Mathlib.Nat.{add-zero}
 use native.Mathlib.Omega.{arith}
-use mathlib.Core.Path.{_≡_, refl, sym, ap, ap₂, _∙_, subst}
+use mathlib.Core.Path.{_≡_, refl, sym, ap, ap₂, _∙_}
 use mathlib.Core.List.{List, [], _∷_, _++_, append-assoc, append-nil}
 use mathlib.Core.Bool.{Bool, true, false, cond, _&&_}
-use lib.ListN.{length, take, drop, getD, set, length-append, take-append-drop}
+use lib.ListN.{length, take, drop, length-append, take-append-drop}
 use lib.Seq.{length-take-le, drop-drop}
 use lib.Dec.{ltb, leb}
-use borrow.Author.Tests.{lt-ltb, le-ltb, le-leb, lt-leb, ltb-true, ltb-false, leb-true, leb-false}
+use borrow.Author.Tests.{lt-ltb, le-ltb, le-leb, lt-leb, ltb-true, ltb-false, leb-true}
 use Rattle.codec.specs.Bytes.{withBytes}
-use Rattle.codec.specs.Question.{Values, none, Outcome, done, refused}
+use Rattle.codec.specs.Question.{Values, none, done, refused}
 use Rattle.codec.proofs.Parts.{length-withBytes}
 use Rattle.codec.proofs.Stores.{withBytes-is, take-withBytes, drop-withBytes}
 use Rattle.trees.specs.declared.walk.Count.{Count}
-use Rattle.trees.specs.Walk.{Visit, visitOf, Look, bad, good, Trace, finished, spent, failed, met, after, run, fit, visits, records}
+use Rattle.trees.specs.Walk.{Visit, Look, bad, good, Trace, finished, spent, failed, met, after, run, fit, visits, records}
 use Rattle.trees.specs.WalkState.{placeOf, seenOf, nextOf, stepOf}
 use Rattle.trees.specs.WalkCall.{Counts, Report, reportOf, ifFinished}
 use Rattle.trees.proofs.LevelLaws.{visit-place, seen-append}

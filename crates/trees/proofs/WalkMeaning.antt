@@ -9,7 +9,7 @@ use mathlib.Core.List.{List, [], _∷_, _++_}
 use lib.ListN.{length, length-append}
 use lib.Dec.{leb, ltb, eqb}
 use borrow.Author.Tests.{leb-true, leb-false}
-use Rattle.codec.specs.Question.{Values, none, Outcome, done, refused, mapOutcome}
+use Rattle.codec.specs.Question.{none, Outcome, done, refused, mapOutcome}
 use Rattle.codec.proofs.Meaning.{done-means}
 use Rattle.codec.proofs.Parts.{length-bytesAt}
 use Rattle.blocks.specs.declared.geometry.Geometry.{Geometry}
@@ -29,7 +29,7 @@ use Rattle.trees.specs.declared.walk.WalkRefusal.{WalkRefusal}
 use Rattle.trees.specs.declared.walk.WalkRefusal.the-variants as why
 use Rattle.trees.specs.declared.walk.Walked.{Walked}
 use Rattle.trees.specs.declared.walk.Walked.the-variants.{Read, Refused}
-use Rattle.trees.specs.Walk.{Visit, visitOf, Look, bad, good, Trace, finished, spent, failed, met, after, run, fit, visits, records, byLevel, Shape, perNode, blockIn, under, lookOf, lookIn}
+use Rattle.trees.specs.Walk.{Visit, visitOf, Look, bad, good, Trace, finished, spent, failed, met, after, run, fit, visits, records, byLevel, perNode, blockIn, under, lookOf, lookIn}
 use Rattle.trees.specs.Shapes.{shapeOf, numrecsOf}
 use Rattle.trees.specs.WalkCall.{Counts, Report, Lent, walkQuestions, walkOf, walkIn}
 use Rattle.trees.specs.WalkAnswer.{walkNumber, walkValues, walkedReport}

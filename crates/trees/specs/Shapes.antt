@@ -1,7 +1,6 @@
 -- What a walk goes by in a tree of a group: the lengths and the block check of a kind in a geometry.
 -- Assumes nothing.
 use Prim.Native.Nat.{ℕ}
-use mathlib.Core.List.{List}
 use Rattle.codec.specs.Question.{Outcome, mapOutcome}
 use Rattle.blocks.specs.declared.geometry.Geometry.{Geometry}
 use Rattle.blocks.specs.declared.kind.TreeKind.{TreeKind}

@@ -16,7 +16,7 @@ use Rattle.trees.specs.declared.walk.Walked.the-variants.{Read, Refused}
 use Rattle.blocks.specs.Refusal.{refusalNumber, refusalValues}
 use Rattle.trees.specs.Walk.{Trace, visits, records}
 use Rattle.trees.specs.WalkState.{seenOf}
-use Rattle.trees.specs.WalkCall.{Counts, Report, report, scratchAfter, blocksAfter, recordsAfter}
+use Rattle.trees.specs.WalkCall.{Report, report, scratchAfter, blocksAfter, recordsAfter}
 
 abbrev pub walkNumber : WalkRefusal → ℕ
 walkNumber why.Levels = 11

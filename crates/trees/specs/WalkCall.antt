@@ -1,18 +1,17 @@
 -- What a call of the walk comes to: its answer, and what each of the four lent slices holds afterwards.
 -- Assumes nothing.
-use Prim.Native.Nat.{ℕ, zero, suc, _+_, _-_, _*_, _/_, max}
-use mathlib.Core.Path.{_≡_}
+use Prim.Native.Nat.{ℕ, _+_, _-_, _*_, _/_, max}
 use mathlib.Core.List.{List, [], _∷_}
 use mathlib.Core.Bool.{_&&_}
 use lib.ListN.{length}
 use lib.Dec.{leb}
 use Rattle.codec.specs.Bytes.{withBytes}
-use Rattle.codec.specs.Question.{Values, none, Outcome, done, refused, Question, ask, answer}
+use Rattle.codec.specs.Question.{none, Outcome, done, refused, Question, ask, answer}
 use Rattle.blocks.specs.declared.geometry.Geometry.{Geometry}
 use Rattle.blocks.specs.declared.kind.TreeKind.{TreeKind}
 use Rattle.blocks.specs.Geometry.{geometryOk}
 use Rattle.trees.specs.Shapes.{shapeOf}
-use Rattle.trees.specs.Walk.{Visit, visitOf, Look, Trace, finished, spent, failed, met, run, fit, visits, records, byLevel, Shape, perNode, lookIn}
+use Rattle.trees.specs.Walk.{visitOf, Trace, finished, spent, failed, met, run, fit, visits, records, byLevel, Shape, perNode, lookIn}
 use Rattle.trees.specs.WalkState.{zeros}
 
 -- the counts of a finished walk: its visits, which are the blocks of the block list, its records, and their bytes

@@ -1,7 +1,7 @@
 -- `exports::answers::planned_answer` meets its contract.
 -- Assumes nothing.
 use borrow.Author.Needs.{needs}
-use mathlib.Core.Path.{_≡_, refl}
+use mathlib.Core.Path.{refl}
 use Rattle.trees.specs.declared.plan.PlanAnswer.the-variants.{BadGeometry, TooManyLevels}
 use Rattle.exports.proofs.TreeCalls.{levels-said, refusal-said}
 use Rattle.exports.proofs.answers.planned_answer.Statement.{statement}

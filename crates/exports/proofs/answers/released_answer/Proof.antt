@@ -1,7 +1,7 @@
 -- `exports::answers::released_answer` meets its contract.
 -- Assumes nothing.
 use borrow.Author.Needs.{needs}
-use mathlib.Core.Path.{_≡_, refl}
+use mathlib.Core.Path.{refl}
 use Rattle.exports.proofs.answers.released_answer.Statement.{statement}
 use Rattle.exports.proofs.answers.released_answer.Tie as tie
 

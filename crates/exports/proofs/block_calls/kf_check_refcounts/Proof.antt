@@ -1,7 +1,6 @@
 -- `exports::block_calls::kf_check_refcounts` meets its contract.
 -- Assumes nothing.
 use borrow.Author.Needs.{needs}
-use mathlib.Core.Path.{_≡_}
 use Rattle.exports.proofs.block_calls.kf_check_refcounts.Statement.{statement}
 use Rattle.exports.proofs.block_calls.kf_check_refcounts.Tie as tie
 

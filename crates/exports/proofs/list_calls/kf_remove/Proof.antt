@@ -1,7 +1,6 @@
 -- `exports::list_calls::kf_remove` meets its contract.
 -- Assumes nothing.
 use borrow.Author.Needs.{needs}
-use mathlib.Core.Path.{_≡_}
 use Rattle.exports.proofs.list_calls.kf_remove.Statement.{statement}
 use Rattle.exports.proofs.list_calls.kf_remove.Tie as tie
 

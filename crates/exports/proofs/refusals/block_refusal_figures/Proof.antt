@@ -1,7 +1,7 @@
 -- `exports::refusals::block_refusal_figures` meets its contract.
 -- Assumes nothing.
 use borrow.Author.Needs.{needs}
-use mathlib.Core.Path.{_≡_, sym, ap, _∙_}
+use mathlib.Core.Path.{sym, ap, _∙_}
 use Rattle.blocks.specs.declared.check.BlockRefusal.{BlockRefusal}
 use Rattle.blocks.specs.Refusal.{refusalValues}
 use Rattle.exports.specs.Interface.{valueFigures}

@@ -1,7 +1,7 @@
 -- `exports::refusals::field_figures` meets its contract.
 -- Assumes nothing.
 use borrow.Author.Needs.{needs}
-use mathlib.Core.Path.{_≡_, sym, ap}
+use mathlib.Core.Path.{sym, ap}
 use Rattle.blocks.specs.declared.check.Field.{Field}
 use Rattle.blocks.specs.Refusal.{fieldValues}
 use Rattle.exports.specs.Interface.{valueFigures}

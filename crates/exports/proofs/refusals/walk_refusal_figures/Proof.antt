@@ -1,7 +1,7 @@
 -- `exports::refusals::walk_refusal_figures` meets its contract.
 -- Assumes nothing.
 use borrow.Author.Needs.{needs}
-use mathlib.Core.Path.{_≡_, sym, ap, _∙_}
+use mathlib.Core.Path.{sym, ap, _∙_}
 use Rattle.trees.specs.declared.walk.WalkRefusal.{WalkRefusal}
 use Rattle.trees.specs.WalkAnswer.{walkValues}
 use Rattle.exports.specs.Interface.{valueFigures}

@@ -1,7 +1,6 @@
 -- `exports::tree_calls::kf_build` meets its contract.
 -- Assumes nothing.
 use borrow.Author.Needs.{needs}
-use mathlib.Core.Path.{_≡_}
 use Rattle.exports.proofs.tree_calls.kf_build.Statement.{statement}
 use Rattle.exports.proofs.tree_calls.kf_build.Tie as tie
 

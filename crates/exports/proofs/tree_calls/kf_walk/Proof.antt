@@ -1,7 +1,6 @@
 -- `exports::tree_calls::kf_walk` meets its contract.
 -- Assumes nothing.
 use borrow.Author.Needs.{needs}
-use mathlib.Core.Path.{_≡_}
 use Rattle.exports.proofs.TreeCalls.{walk-said}
 use Rattle.exports.proofs.tree_calls.kf_walk.Statement.{statement}
 use Rattle.exports.proofs.tree_calls.kf_walk.Tie as tie

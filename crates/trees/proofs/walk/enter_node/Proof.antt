@@ -1,13 +1,12 @@
 use borrow.Author.Needs.{needs}
 use native.Mathlib.Omega.{arith}
 use mathlib.Core.Path.{_≡_, refl, sym, ap, ap₂, _∙_}
-use mathlib.Core.List.{List, [], _++_}
+use mathlib.Core.List.{[]}
 use Prim.Native.Nat.{ℕ, _+_, _-_, _*_, _^_}
 use lib.ListN.{length}
 use denote.Ref.{now}
-use Rattle.codec.specs.Question.{Outcome, done}
+use Rattle.codec.specs.Question.{done}
 use Rattle.codec.proofs.Parts.{withBytes-one}
-use Rattle.trees.specs.declared.walk.Count.{Count}
 use Rattle.trees.specs.Walk.{pointers}
 use Rattle.trees.specs.WalkState.{dueOf}
 use Rattle.trees.proofs.StackLaws.{pointers-length}

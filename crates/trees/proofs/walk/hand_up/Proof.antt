@@ -1,5 +1,5 @@
 use borrow.Author.Needs.{needs}
-use mathlib.Core.Path.{_≡_, refl, sym, ap}
+use mathlib.Core.Path.{sym, ap}
 use Rattle.codec.specs.Question.{mapOutcome}
 use Rattle.blocks.specs.declared.check.Checked.{Checked}
 use Rattle.blocks.specs.Refusal.{checkedOutcome}

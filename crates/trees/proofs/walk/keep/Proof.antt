@@ -1,12 +1,10 @@
 use borrow.Author.Needs.{needs}
 use native.Mathlib.Omega.{arith}
-use mathlib.Core.Path.{_≡_, refl, sym, ap, ap₂, _∙_, subst}
-use mathlib.Core.List.{List, [], _∷_, _++_}
-use Prim.Native.Nat.{ℕ, _+_, _-_, _*_, _/_, _%_, _<_, _≤_, _^_}
-use lib.ListN.{length, set, getD, take, drop, replicate, length-set, length-append, length-take}
+use mathlib.Core.Path.{refl, sym, ap}
+use mathlib.Core.List.{[]}
+use Prim.Native.Nat.{_-_, _%_, _^_}
+use lib.ListN.{length}
 use denote.Ref.{now}
-use Rattle.trees.specs.WalkState.{levelIn}
-use Rattle.codec.specs.Bytes.{withBytes}
 use Rattle.codec.proofs.Stores.{withBytes-none}
 use Rattle.codec.proofs.Parts.{withBytes-one}
 use Rattle.trees.proofs.LevelLaws.{level-this, level-other}

@@ -1,14 +1,13 @@
 use borrow.Author.Needs.{needs}
 use native.Mathlib.Omega.{arith}
-use native.Mathlib.Numerals.{add-one}
-use mathlib.Core.Path.{_≡_, refl, sym, ap, ap₂, _∙_, subst}
-use mathlib.Core.List.{List, [], _∷_, _++_}
-use Prim.Native.Nat.{ℕ, _+_, _-_, _*_, _/_, _%_, _<_, _≤_, _^_}
-use lib.ListN.{length, set, getD, take, drop, replicate, length-set, length-append, length-take}
+use mathlib.Core.Path.{_≡_, refl, sym, ap, _∙_}
+use mathlib.Core.List.{List, []}
+use Prim.Native.Nat.{ℕ, _+_, _-_, _≤_}
+use lib.ListN.{length, take, length-append}
 use lib.Seq.{length-take-le}
 use denote.Ref.{now}
-use Rattle.trees.specs.Walk.{Visit, atLevel, byLevel}
-use Rattle.trees.specs.WalkState.{levelIn, seenOf}
+use Rattle.trees.specs.Walk.{atLevel, byLevel}
+use Rattle.trees.specs.WalkState.{seenOf}
 use Rattle.codec.specs.Bytes.{withBytes}
 use Rattle.codec.proofs.Stores.{withBytes-none, withBytes-then}
 use Rattle.trees.proofs.LevelLaws.{by-level-length, by-level-more, seen-length}

@@ -1,20 +1,18 @@
 use borrow.Author.Needs.{needs}
 use native.Mathlib.Omega.{arith}
-use mathlib.Core.Path.{_≡_, refl, sym, ap, ap₂, _∙_, subst}
+use mathlib.Core.Path.{_≡_, refl, sym, ap, ap₂, _∙_}
 use mathlib.Core.List.{List, []}
 use Prim.Native.Nat.{ℕ, _+_, _-_, _*_, _<_, _≤_}
-use lib.ListN.{length, take, drop}
+use lib.ListN.{length}
 use denote.Ref.{now}
-use Rattle.codec.specs.Question.{Outcome, done, refused, mapOutcome}
-use Rattle.blocks.specs.declared.check.Checked.{Checked}
-use Rattle.blocks.specs.declared.check.Header.{Header}
+use Rattle.codec.specs.Question.{done, mapOutcome}
 use Rattle.blocks.specs.Refusal.{checkedOutcome}
-use Rattle.blocks.specs.Tree.{headerLen, recordLen, keysLen}
+use Rattle.blocks.specs.Tree.{headerLen, recordLen}
 use Rattle.blocks.specs.Check.{checkBlock}
-use Rattle.blocks.proofs.Laws.{blocksize-within, header-fits}
-use Rattle.trees.specs.Walk.{Visit, visitOf, Look, bad, good, pointers, Shape, perNode, firstPointer, blockIn, lookIn}
+use Rattle.blocks.proofs.Laws.{blocksize-within}
+use Rattle.trees.specs.Walk.{visitOf, good, pointers, firstPointer, blockIn, lookIn}
 use Rattle.trees.specs.Shapes.{shapeOf, numrecsOf}
-use Rattle.trees.proofs.LookLaws.{look-outside, look-bad, look-good, part-is, part-long, under-leaf, under-node, start-small, node-some, pointers-inside, header-body, leaf-inside, node-most, node-room}
+use Rattle.trees.proofs.LookLaws.{look-outside, look-bad, look-good, part-is, part-long, under-leaf, under-node, start-small, pointers-inside, header-body, leaf-inside, node-most, node-room}
 use Rattle.trees.proofs.VisitLaws.{leaf-part, visit-bad, visit-leaf, visit-node}
 use Rattle.trees.proofs.walk.visit.Statement.{statement}
 use Rattle.trees.proofs.walk.visit.Tie as tie

@@ -2,19 +2,15 @@ use borrow.Author.Needs.{needs}
 use borrow.Author.Tests.{not-true, not-false, le-leb, lt-leb}
 use native.Mathlib.Omega.{arith}
 use native.Mathlib.Nat.{mul-le-mul, mul-assoc}
-use mathlib.Core.Path.{_≡_, refl, sym, ap, _∙_, subst}
+use mathlib.Core.Path.{_≡_, sym, _∙_, subst}
 use mathlib.Core.Bool.{true, false}
-use Prim.Native.Nat.{ℕ, _+_, _*_, _≤_, _<_}
+use Prim.Native.Nat.{ℕ, _*_, _≤_}
 use lib.ListN.{length}
 use denote.Ref.{now}
-use Rattle.codec.specs.Question.{Outcome, done, refused}
 use Rattle.blocks.specs.Geometry.{geometryOk}
 use Rattle.blocks.specs.Tree.{recordLen}
 use Rattle.blocks.specs.declared.check.BlockRefusal.the-variants.{BadGeometry}
 use Rattle.trees.specs.declared.walk.WalkRefusal.the-variants as why
-use Rattle.trees.specs.Walk.{Trace, perNode}
-use Rattle.trees.specs.Shapes.{shapeOf}
-use Rattle.trees.specs.WalkCall.{walkOf, lent}
 use Rattle.trees.proofs.LookLaws.{node-small}
 use Rattle.trees.proofs.CallLaws.{untouched}
 use Rattle.trees.proofs.walk.walk.Statement.{statement}
