@@ -16,7 +16,7 @@ unfolding divideBit divideBits
 divideBits-lt zero s h = h
 divideBits-lt (suc k) s h = divideBits-lt k (divideBit s) (reduced-lt (s % 2) (s / 2) (omega arith))
 
-crcBytes-lt : (l : List ℕ) (r : ℕ) → IsBytes l → r < 2 ^ 32 → crcBytes r l < 2 ^ 32
+pub crcBytes-lt : (l : List ℕ) (r : ℕ) → IsBytes l → r < 2 ^ 32 → crcBytes r l < 2 ^ 32
 unfolding crcByte crcBytes
 crcBytes-lt [] r hl hr = hr
 crcBytes-lt (b ∷ l) r hl hr =

@@ -1,6 +1,7 @@
 pub mod Table
 pub mod Xor
 pub mod Division
+pub mod Words
 pub mod Polynomial
 pub mod CrcRange
 pub mod Parts

@@ -1,5 +1,6 @@
 pub mod Bytes
 pub mod Crc
+pub mod Words
 pub mod Polynomial
 pub mod Question
 pub mod Records

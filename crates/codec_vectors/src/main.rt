@@ -1,5 +1,5 @@
-// RFC 3720's vectors of CRC32C (B.4), a block's check put into its own field and left out again, a record of each kind written among other
-// bytes and read back, and lists that questions 19 to 21 accept and refuse.
+// RFC 3720's vectors of CRC32C (B.4) and short inputs, by words and by single bytes, a block's check put into its own field and left out again, a
+// record of each kind written among other bytes and read back, and lists that questions 19 to 21 accept and refuse.
 use codec::check::ListChecked;
 use codec::crc;
 use codec::endian;
@@ -71,6 +71,23 @@ fn checks() {
     line(b"field", endian::be32(&pdu, 4));
     line(b"read", endian::le32(&pdu, 4));
     line(b"zeroed", crc::crc32c_with_zeroed_crc(&pdu, 4));
+}
+
+// Both forms of the check, on inputs shorter than a word, of whole words, and with bytes after them.
+fn forms(name: &[u8], bytes: &[u8]) {
+    line(name, crc::crc32c(bytes));
+    line(name, crc::crc32c_singly(bytes));
+}
+
+fn lengths() {
+    forms(b"0 bytes", b"");
+    forms(b"1 byte", b"1");
+    forms(b"3 bytes", b"123");
+    forms(b"4 bytes", b"1234");
+    forms(b"5 bytes", b"12345");
+    forms(b"7 bytes", b"1234567");
+    forms(b"8 bytes", b"12345678");
+    forms(b"9 bytes", b"123456789");
 }
 
 // A field in hexadecimal, of so many digits.
@@ -186,6 +203,7 @@ fn lists() {
 
 fn main() {
     checks();
+    lengths();
     rmap_record();
     refcount_record();
     extent_record();

@@ -12,6 +12,7 @@ use crate::given::tree_kind;
 use blocks::check::check_block;
 use blocks::geometry::AgBlock;
 use codec::crc::crc32c;
+use codec::crc::crc32c_singly;
 
 // CRC32C of the bytes. (This call answers the check itself.)
 #[no_mangle]
@@ -19,6 +20,14 @@ pub extern "C" fn kf_crc32c(bytes: &[u8]) -> u32
     ensures { λ r. ⌜ r ≡ crc32cOf (now (bytes .entry)) ⌝ }
 {
     crc32c(bytes)
+}
+
+// The same by single bytes.
+#[no_mangle]
+pub extern "C" fn kf_crc32c_singly(bytes: &[u8]) -> u32
+    ensures { λ r. ⌜ r ≡ crc32cOf (now (bytes .entry)) ⌝ }
+{
+    crc32c_singly(bytes)
 }
 
 // Questions 19 and 20 on a reverse map.

@@ -8,8 +8,8 @@ use borrow.Author.Needs.{needs}
 use Rattle.codec.proofs.crc.crc32c.Statement.{statement}
 use Rattle.codec.proofs.crc.crc32c.Tie as tie
 
-table-requires : tie.Need-table-requires
-table-requires c κs = search needs
+tables-requires : tie.Need-tables-requires
+tables-requires c κs = search needs
 
 crc-bytes-requires : tie.Need-crc-bytes-requires
 crc-bytes-requires c κs = search needs
@@ -19,4 +19,4 @@ unfolding crc32cOf
 returns c = ap (λ (x : ℕ). bitXor x 0xFFFF_FFFF) (c .crc-bytes .ensures)
 
 pub crc32c-spec : {M : Type 1} → statement M
-crc32c-spec = tie.close (tie.spec table-requires crc-bytes-requires returns)
+crc32c-spec = tie.close (tie.spec tables-requires crc-bytes-requires returns)

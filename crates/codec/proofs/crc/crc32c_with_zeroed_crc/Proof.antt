@@ -18,8 +18,8 @@ use Rattle.codec.proofs.crc.crc32c_with_zeroed_crc.Tie as tie
 after-field : (l : List ℕ) (at after : ℕ) → after ≡ at + 4 → take (length l - after) (drop after l) ≡ drop (at + 4) l
 after-field l at after e = take-all (length l - after) (drop after l) (le-of-eq (length-drop after l)) ∙ ap (λ (n : ℕ). drop n l) e
 
-table-requires : tie.Need-table-requires
-table-requires c κs = search needs
+tables-requires : tie.Need-tables-requires
+tables-requires c κs = search needs
 
 slice-aggregate-crc-bytes : tie.Need-slice-aggregate-crc-bytes
 slice-aggregate-crc-bytes c = sym (length-take-le _ _ (omega arith))
@@ -66,7 +66,7 @@ pub crc32c-with-zeroed-crc-spec : {M : Type 1} → statement M
 crc32c-with-zeroed-crc-spec =
     tie.close
     (tie.spec
-    table-requires
+    tables-requires
     slice-aggregate-crc-bytes
     crc-bytes-requires
     slice-aggregate-crc-bytes-2

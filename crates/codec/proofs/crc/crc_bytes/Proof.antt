@@ -1,65 +1,56 @@
--- `codec::crc::crc_bytes` meets its contract. The invariant: the register and the bytes to come make what the whole makes.
+-- `codec::crc::crc_bytes` meets its contract: the whole words, and the bytes after them.
 -- Assumes nothing.
-use Prim.Native.Nat.{ℕ, _+_, _-_, _≤_, _<_}
-use mathlib.Core.Path.{_≡_, refl, sym, _∙_}
+use mathlib.Core.Path.{ap, _∙_}
 use mathlib.Core.List.{List}
-use native.Mathlib.Omega.{arith}
-use native.Mathlib.Numerals.{add-one}
-use lib.ListN.{length, drop, getD, drop-of-length-le}
-use lib.Seq.{drop-cons}
-use Rattle.codec.specs.Crc.{crcByte, crcBytes}
+use Prim.Native.Nat.{ℕ, _*_, _/_}
+use native.Mathlib.Nat.{le-of-eq}
+use borrow.Author.Needs.{needs}
+use lib.ListN.{length, drop, length-drop}
+use lib.Seq.{take-all}
+use Rattle.codec.specs.Bytes.{IsBytes}
+use Rattle.codec.specs.Words.{crcSingly}
+use Rattle.codec.proofs.Words.{words-are-singles}
 use Rattle.codec.proofs.crc.crc_bytes.Statement.{statement}
 use Rattle.codec.proofs.crc.crc_bytes.Tie as tie
 
-abbrev Inv-loop : tie.InvT-loop
-Inv-loop entries crc s r₀ i₀ r i = (i ≤ length s) × (crcBytes r (drop i s) ≡ crcBytes crc s)
+crc-words-requires : tie.Need-crc-words-requires
+crc-words-requires c κs = search needs
 
-abbrev μ-loop : tie.MeasureT-loop
-μ-loop entries crc s r₀ i₀ r i = length s - i
+mul-from : tie.Need-mul-from
+mul-from c = search needs
 
--- a turn: the next byte goes into the register
-turn : (s : List ℕ) (r r′ i : ℕ) → i < length s → r′ ≡ crcByte r (getD s i 0) → crcBytes r′ (drop (i + 1) s) ≡ crcBytes r (drop i s)
-unfolding crcBytes
-turn s r r′ i h e = rw (e, add-one, drop-cons s i 0)
+sub-crc-singly : tie.Need-sub-crc-singly
+sub-crc-singly c = search needs
 
--- the end: no byte to come
-done : (s : List ℕ) (r i : ℕ) → length s ≤ i → crcBytes r (drop i s) ≡ r
-unfolding crcBytes
-done s r i h = rw (drop-of-length-le s)
+part-crc-singly-start : tie.Need-part-crc-singly-start
+part-crc-singly-start c = search needs
 
-loop-holds : tie.Need-loop-holds Inv-loop μ-loop
-loop-holds c = (omega arith, refl)
+part-crc-singly-end : tie.Need-part-crc-singly-end
+part-crc-singly-end c = search needs
 
-shared-slice-read-crc-byte : tie.Need-shared-slice-read-crc-byte Inv-loop μ-loop
-shared-slice-read-crc-byte c = omega arith
+crc-singly-requires : tie.Need-crc-singly-requires
+crc-singly-requires c κs = search needs
 
-crc-byte-requires : tie.Need-crc-byte-requires Inv-loop μ-loop
-crc-byte-requires c κs = c .before .before .before .before .pre
-
-add-i : tie.Need-add-i Inv-loop μ-loop
-add-i c = omega arith
-
-loop-less : tie.Need-loop-less Inv-loop μ-loop
-loop-less c = omega arith
-
-loop-again : tie.Need-loop-again Inv-loop μ-loop
-loop-again c =
-    let l = c .before .before .before .loop in
-    (omega arith, turn _ (l .r) _ (l .i) (c .before .before .loop-test .taken) (c .crc-byte .ensures) ∙ l .inv .1)
-
-returns : tie.Need-returns Inv-loop μ-loop
-returns c = let l = c .before .loop in sym (done _ (l .r) (l .i) (c .loop-test .left)) ∙ l .inv .1
+returns : tie.Need-returns
+returns c =
+    let start = c .before .before .before .before in
+    let t : List ℕ = start .args .entries .now in
+    let s : List ℕ = start .args .s .now in
+    let k : ℕ = length s / 4 * 4 in
+    let small : IsBytes s = λ i. c .before .before .before .shared-slice-known .given i .fits in
+    c .crc-singly .ensures
+    ∙ ap (crcSingly t _) (take-all _ (drop k s) (le-of-eq (length-drop k s)))
+    ∙ c .before .before .crc-words .ensures
+    ∙ words-are-singles t (start .pre) .words (start .args .crc) s (start .fits .crc .fits) small
 
 pub crc-bytes-spec : {M : Type 1} → statement M
 crc-bytes-spec =
     tie.close
     (tie.spec
-    Inv-loop
-    μ-loop
-    loop-holds
-    shared-slice-read-crc-byte
-    crc-byte-requires
-    add-i
-    loop-less
-    loop-again
+    crc-words-requires
+    mul-from
+    sub-crc-singly
+    part-crc-singly-start
+    part-crc-singly-end
+    crc-singly-requires
     returns)
