@@ -1,7 +1,7 @@
 /* The C interface of the group trees. Link target/staticlib/libexports.a, made by `rt staticlib exports`.
  *
  * A slice passes as a pointer, which is not null, and the number of its elements. No two slices of a call overlap where one of them is
- * written. Every call but kf_crc32c answers 0 where it was done, else the number of the first question that failed, and writes the four
+ * written. Every call but the two of CRC32C answers 0 where it was done, else the number of the first question that failed, and writes the four
  * figures of `said` whole where it has them. docs/QUESTIONS.md says each number's question, and what the words below mean; the numbers in
  * brackets below are the questions of a call, in the order in which they are asked. A list of records is its bytes as on disk: 24 for a
  * reverse-map record, 12 for a shared count, 8 for a free extent.
@@ -24,8 +24,9 @@ extern "C" {
 #define KF_GEOMETRY \
     uint16_t version, uint32_t blocksize, uint32_t agblocks, uint32_t agno, uint64_t uuid_high, uint64_t uuid_low
 
-/* CRC32C of the bytes. */
+/* CRC32C of the bytes: four at a step from four tables, and one at a step from one. Both answer the CRC, and the same on every input. */
 uint32_t kf_crc32c(const uint8_t *bytes, size_t bytes_len);
+uint32_t kf_crc32c_singly(const uint8_t *bytes, size_t bytes_len);
 
 /* Is it an accepted reverse map (19, 20)? Are they accepted shared counts (19, 21)? */
 uint32_t kf_check_rmaps(const uint8_t *list, size_t list_len);

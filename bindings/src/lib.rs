@@ -151,7 +151,7 @@ fn answer<T>(number: u32, said: &[u64; 4], done: T) -> Result<T, Refusal> {
     }
 }
 
-/// CRC32C of the bytes.
+/// CRC32C of the bytes, four at a step.
 ///
 /// ```
 /// assert_eq!(kf::crc32c(b"123456789"), 0xE306_9283);
@@ -159,6 +159,20 @@ fn answer<T>(number: u32, said: &[u64; 4], done: T) -> Result<T, Refusal> {
 pub fn crc32c(bytes: &[u8]) -> u32 {
     // SAFETY: a slice of bytes, which the call reads.
     unsafe { raw::kf_crc32c(bytes.as_ptr(), bytes.len()) }
+}
+
+/// CRC32C of the bytes, one at a step: the same as [`crc32c`] on every input.
+///
+/// ```
+/// let block: Vec<u8> = (0..=255).collect();
+/// for from in 0..8 {
+///     assert_eq!(kf::crc32c_singly(&block[from..]), kf::crc32c(&block[from..]));
+/// }
+/// assert_eq!(kf::crc32c_singly(b"123456789"), 0xE306_9283);
+/// ```
+pub fn crc32c_singly(bytes: &[u8]) -> u32 {
+    // SAFETY: a slice of bytes, which the call reads.
+    unsafe { raw::kf_crc32c_singly(bytes.as_ptr(), bytes.len()) }
 }
 
 /// Is it an accepted reverse map? Questions 19 and 20.

@@ -7,6 +7,7 @@
 #[allow(clippy::too_many_arguments)]
 extern "C" {
     pub fn kf_crc32c(bytes: *const u8, bytes_len: usize) -> u32;
+    pub fn kf_crc32c_singly(bytes: *const u8, bytes_len: usize) -> u32;
     pub fn kf_check_rmaps(list: *const u8, list_len: usize) -> u32;
     pub fn kf_check_refcounts(list: *const u8, list_len: usize) -> u32;
     pub fn kf_check_block(

@@ -65,105 +65,245 @@ fn row<A, B>(
     }
 }
 
+/// The checks of so many parts of the bytes, together.
+fn fold(bytes: &[u8], size: usize, crc: fn(&[u8]) -> u32) -> u32 {
+    bytes.chunks_exact(size).fold(0, |x, c| x ^ crc(c))
+}
+
 fn crc(rows: &mut Vec<Row>) {
     let mut r = sample::Random(1);
     let all = r.bytes(4096 * 4096);
     for n in [2048, 4096] {
         let part = &all[..n * 4096];
-        let fold = |crc: fn(&[u8]) -> u32| part.chunks_exact(4096).fold(0, |x, c| x ^ crc(c));
         rows.push(row(
             "CRC32C of 4,096 bytes",
             format!("{n} times"),
-            || fold(library::crc32c),
-            || fold(crc32c::crc32c),
+            || fold(part, 4096, library::crc32c),
+            || fold(part, 4096, crc32c::crc32c),
         ));
-        assert_eq!(fold(library::crc32c), fold(crc32c::crc32c));
+        let told = fold(part, 4096, crc32c::crc32c);
+        assert_eq!(fold(part, 4096, library::crc32c), told);
     }
 }
 
-fn tree_image(n: usize) -> (Geometry, Vec<u8>, Image) {
+/// A call by each form of the check: the library's two, and the original with
+/// slicing by four, with one table, and with the processor's instruction.
+struct Forms {
+    what: String,
+    size: String,
+    words: Duration,
+    singly: Option<Duration>,
+    original: [Duration; 3],
+}
+
+const FORMS: [Backend; 3] = [Backend::Slice4, Backend::Bytewise, Backend::Sse42];
+
+fn by_forms<A>(mut original: impl FnMut() -> A) -> [Duration; 3] {
+    FORMS.map(|b| {
+        set_backend(b);
+        best(TIMES, &mut original).0
+    })
+}
+
+fn check_forms(rows: &mut Vec<Forms>) {
+    let mut r = sample::Random(1);
+    let all = r.bytes(4096 * 4096);
+    for size in [4096, 512, 64] {
+        rows.push(Forms {
+            what: format!("CRC32C of {size} bytes"),
+            size: format!("{} times", all.len() / size),
+            words: best(TIMES, || fold(&all, size, library::crc32c)).0,
+            singly: Some(best(TIMES, || fold(&all, size, library::crc32c_singly)).0),
+            original: by_forms(|| fold(&all, size, crc32c::crc32c)),
+        });
+        let told = fold(&all, size, crc32c::crc32c);
+        assert_eq!(fold(&all, size, library::crc32c), told);
+        assert_eq!(fold(&all, size, library::crc32c_singly), told);
+    }
+}
+
+fn tree_forms(rows: &mut Vec<Forms>) {
+    let n = 1_000_000;
+    for size in [4096, 512] {
+        let s = tree_image(n, size);
+        let mut lent = Lent::of(&s);
+        let mut out = vec![0; s.image.bytes.len()];
+        rows.push(Forms {
+            what: format!("block check at {size}"),
+            size: format!("{} leaves", s.leaves),
+            words: best(TIMES, || s.check_library()).0,
+            singly: None,
+            original: by_forms(|| s.check_original()),
+        });
+        rows.push(Forms {
+            what: format!("walk at {size}"),
+            size: format!("{n} records"),
+            words: best(TIMES, || s.walk_library(&mut lent)).0,
+            singly: None,
+            original: by_forms(|| s.walk_original()),
+        });
+        assert!(lent.records == s.list);
+        rows.push(Forms {
+            what: format!("build at {size}"),
+            size: format!("{n} records"),
+            words: best(TIMES, || s.build_library(&mut out)).0,
+            singly: None,
+            original: by_forms(|| bare::build(&s.g, Tree::Rmap, &s.list, &s.image.blocks)),
+        });
+        assert!(out == s.image.bytes);
+    }
+}
+
+fn print_forms(rows: &[Forms]) {
+    println!(
+        "| call | size | library, by words | library, singly | original, by words | original, singly \
+         | original, instruction | by words, ratio | singly / by words |"
+    );
+    println!("|---|---|---:|---:|---:|---:|---:|---:|---:|");
+    for r in rows {
+        let [words, singly, instruction] = r.original.map(ms);
+        let own = r.singly.map_or(String::new(), |d| format!("{:.3}", ms(d)));
+        // Where the library has no such call singly, the original's.
+        let gain = r.singly.map_or(singly / words, |d| ms(d) / ms(r.words));
+        println!(
+            "| {} | {} | {:.3} | {own} | {words:.3} | {singly:.3} | {instruction:.3} | {:.2} | {gain:.2} |",
+            r.what,
+            r.size,
+            ms(r.words),
+            ms(r.words) / words
+        );
+    }
+}
+
+/// A reverse map of so many records, at a block size.
+struct Sample {
+    size: usize,
+    g: Geometry,
+    list: Vec<u8>,
+    image: Image,
+    leaves: usize,
+}
+
+fn tree_image(n: usize, size: usize) -> Sample {
     let list = bare::rmap_bytes(&sample::rmaps(n));
-    let g = sample::geometry_for(Tree::Rmap, 4096, n as u64);
+    let g = sample::geometry_for(Tree::Rmap, size as u64, n as u64);
     let image = sample::image(&g, Tree::Rmap, &list);
-    (g, list, image)
+    let plan = paper::plan(&g, Tree::Rmap, n as u64).accepted();
+    let leaves = plan.expect("a plan")[0] as usize;
+    Sample {
+        size,
+        g,
+        list,
+        image,
+        leaves,
+    }
+}
+
+impl Sample {
+    fn leaf(&self, i: usize) -> &[u8] {
+        &self.image.bytes[i * self.size..][..self.size]
+    }
+
+    fn check_library(&self) {
+        let g = library::g(&self.g);
+        for i in 0..self.leaves {
+            let said = library::check_block(&g, 0, i as u32, 0, self.leaf(i));
+            assert_eq!(said.number, 0);
+        }
+    }
+
+    fn check_original(&self) {
+        let sb = self.g.superblock();
+        let shape = oracle::rmap::shape();
+        for i in 0..self.leaves {
+            let b = self.leaf(i);
+            let r = oracle::ag_btree::parse_block(b, &sb, shape, self.g.agno, i as u32, 0);
+            assert!(r.is_ok());
+        }
+    }
+
+    fn walk_library(&self, lent: &mut Lent) {
+        let im = &self.image;
+        let r = library::walk(
+            &library::g(&self.g),
+            0,
+            &im.bytes,
+            im.root,
+            im.levels,
+            &mut lent.stack,
+            &mut lent.scratch,
+            &mut lent.blocks,
+            &mut lent.records,
+        );
+        assert_eq!(r.number, 0);
+    }
+
+    fn walk_original(&self) -> bare::WalkAnswer {
+        let im = &self.image;
+        let a = bare::walk_blocks(&self.g, Tree::Rmap, &im.bytes, im.root, im.levels);
+        assert!(a.outcome.number().is_none());
+        a
+    }
+
+    fn build_library(&self, out: &mut [u8]) {
+        let g = library::g(&self.g);
+        let said = library::build(&g, 0, &self.list, &self.image.blocks, out);
+        assert_eq!(said.number, 0);
+    }
+}
+
+/// What a walk is lent.
+struct Lent {
+    stack: Vec<u32>,
+    scratch: Vec<u64>,
+    blocks: Vec<u32>,
+    records: Vec<u8>,
+}
+
+impl Lent {
+    fn of(s: &Sample) -> Lent {
+        let cap = paper::node_capacity(&s.g, Tree::Rmap) as usize;
+        Lent {
+            stack: vec![0; 2 * s.image.levels as usize * cap],
+            scratch: vec![0; s.image.blocks.len()],
+            blocks: vec![0; s.image.blocks.len()],
+            records: vec![0; s.list.len()],
+        }
+    }
 }
 
 fn trees(rows: &mut Vec<Row>) {
     let sizes = [1_000_000, 2_000_000];
-    let made = sizes.map(tree_image);
-    for (n, (g, _, im)) in sizes.iter().zip(&made) {
-        let lg = library::g(g);
-        let sb = g.superblock();
-        let shape = oracle::rmap::shape();
-        let leaves = paper::plan(g, Tree::Rmap, *n as u64)
-            .accepted()
-            .expect("a plan")[0] as usize;
+    let made = sizes.map(|n| tree_image(n, 4096));
+    for s in &made {
         rows.push(row(
             "block check",
-            format!("{leaves} leaves of 4,096"),
-            || {
-                let mut good = 0;
-                for i in 0..leaves {
-                    let b = &im.bytes[i * 4096..][..4096];
-                    good += u32::from(library::check_block(&lg, 0, i as u32, 0, b).number == 0);
-                }
-                assert_eq!(good as usize, leaves);
-            },
-            || {
-                let mut good = 0;
-                for i in 0..leaves {
-                    let b = &im.bytes[i * 4096..][..4096];
-                    let r = oracle::ag_btree::parse_block(b, &sb, shape, g.agno, i as u32, 0);
-                    good += u32::from(r.is_ok());
-                }
-                assert_eq!(good as usize, leaves);
-            },
+            format!("{} leaves of 4,096", s.leaves),
+            || s.check_library(),
+            || s.check_original(),
         ));
     }
-    for (n, (g, list, im)) in sizes.iter().zip(&made) {
-        let lg = library::g(g);
-        let cap = paper::node_capacity(g, Tree::Rmap) as usize;
-        let mut stack = vec![0; 2 * im.levels as usize * cap];
-        let mut scratch = vec![0; im.blocks.len()];
-        let mut blocks = vec![0; im.blocks.len()];
-        let mut records = vec![0; list.len()];
+    for (n, s) in sizes.iter().zip(&made) {
+        let mut lent = Lent::of(s);
         rows.push(row(
             "walk, reverse map at 4,096",
             format!("{n} records"),
-            || {
-                let r = library::walk(
-                    &lg,
-                    0,
-                    &im.bytes,
-                    im.root,
-                    im.levels,
-                    &mut stack,
-                    &mut scratch,
-                    &mut blocks,
-                    &mut records,
-                );
-                assert_eq!(r.number, 0);
-            },
-            || {
-                let a = bare::walk_blocks(g, Tree::Rmap, &im.bytes, im.root, im.levels);
-                assert!(a.outcome.number().is_none());
-                a
-            },
+            || s.walk_library(&mut lent),
+            || s.walk_original(),
         ));
-        let a = bare::walk_blocks(g, Tree::Rmap, &im.bytes, im.root, im.levels);
-        let a = a.outcome.accepted().expect("the original walks it");
-        assert!(records == *list && records == a.records && blocks == a.blocks);
+        let a = s.walk_original().outcome.accepted();
+        let a = a.expect("the original walks it");
+        assert!(lent.records == s.list && lent.records == a.records && lent.blocks == a.blocks);
     }
-    for (n, (g, list, im)) in sizes.iter().zip(&made) {
-        let lg = library::g(g);
-        let mut out = vec![0; im.bytes.len()];
+    for (n, s) in sizes.iter().zip(&made) {
+        let mut out = vec![0; s.image.bytes.len()];
         rows.push(row(
             "build, reverse map at 4,096",
             format!("{n} records"),
-            || assert_eq!(library::build(&lg, 0, list, &im.blocks, &mut out).number, 0),
-            || bare::build(g, Tree::Rmap, list, &im.blocks),
+            || s.build_library(&mut out),
+            || bare::build(&s.g, Tree::Rmap, &s.list, &s.image.blocks),
         ));
-        assert!(out == im.bytes);
+        assert!(out == s.image.bytes);
     }
 }
 
@@ -312,8 +452,6 @@ fn lets_go(rows: &mut Vec<Row>) {
 
 /// All of it, or the parts named.
 pub fn bench(words: &[String]) {
-    // One byte at a step, as the library.
-    set_backend(Backend::Bytewise);
     let parts: [(&str, fn(&mut Vec<Row>)); 5] = [
         ("crc", crc),
         ("trees", trees),
@@ -322,13 +460,27 @@ pub fn bench(words: &[String]) {
         ("lets_go", lets_go),
     ];
     for w in words {
-        assert!(parts.iter().any(|(n, _)| n == w), "no part {w}");
+        assert!(
+            w == "forms" || parts.iter().any(|(n, _)| n == w),
+            "no part {w}"
+        );
     }
+    let wanted = |name: &str| words.is_empty() || words.iter().any(|w| w == name);
+    if wanted("forms") {
+        let mut rows = Vec::new();
+        check_forms(&mut rows);
+        tree_forms(&mut rows);
+        print_forms(&rows);
+    }
+    // Four bytes at a step, as the library.
+    set_backend(Backend::Slice4);
     let mut rows = Vec::new();
     for (name, f) in parts {
-        if words.is_empty() || words.iter().any(|w| w == name) {
+        if wanted(name) {
             f(&mut rows);
         }
     }
-    print(&rows);
+    if !rows.is_empty() {
+        print(&rows);
+    }
 }

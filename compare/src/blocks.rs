@@ -8,6 +8,22 @@ use oracle::ag_btree::reach::stamp;
 use oracle::sample::Random;
 use oracle::{bare, paper, Geometry, Tree};
 
+/// Both forms on the same bytes, beside the original's.
+fn forms(b: &[u8], tally: &mut Tally) {
+    let want = crc32c::crc32c(b);
+    let forms: [(&str, fn(&[u8]) -> u32); 2] = [
+        ("crc32c", library::crc32c),
+        ("crc32c_singly", library::crc32c_singly),
+    ];
+    for (name, form) in forms {
+        let got = form(b);
+        if got != want {
+            differ(name, "answer", &got.to_string(), &want.to_string(), &hex(b));
+        }
+        tally.add(name, 0);
+    }
+}
+
 pub fn crcs(r: &mut Random, scale: u64, tally: &mut Tally) {
     for i in 0..20_000 * scale {
         let n = if i < 600 { i } else { r.below(600) };
@@ -17,17 +33,20 @@ pub fn crcs(r: &mut Random, scale: u64, tally: &mut Tally) {
             1 => b.fill(0xFF),
             _ => (),
         }
-        let (got, want) = (library::crc32c(&b), crc32c::crc32c(&b));
-        if got != want {
-            differ(
-                "crc32c",
-                "answer",
-                &got.to_string(),
-                &want.to_string(),
-                &hex(&b),
-            );
+        forms(&b, tally);
+    }
+    // Every short length, wherever the bytes begin in a word of memory.
+    let all = r.bytes(8 + 8 + 300);
+    let word = (8 - all.as_ptr() as usize % 8) % 8;
+    for from in 0..8 {
+        for n in 0..=300 {
+            forms(&all[word + from..][..n], tally);
         }
-        tally.add("crc32c", 0);
+    }
+    for _ in 0..200 * scale {
+        let n = r.below(1 << 18) as usize;
+        let from = r.below(8) as usize;
+        forms(&r.bytes(from + n)[from..], tally);
     }
 }
 

@@ -50,6 +50,10 @@ pub fn crc32c(b: &[u8]) -> u32 {
     kf::crc32c(b)
 }
 
+pub fn crc32c_singly(b: &[u8]) -> u32 {
+    kf::crc32c_singly(b)
+}
+
 pub fn check_rmaps(b: &[u8]) -> u32 {
     // SAFETY: here and below slices by pointer and length, and figures.
     unsafe { raw::kf_check_rmaps(b.as_ptr(), b.len()) }

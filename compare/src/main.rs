@@ -33,7 +33,8 @@ struct Part {
 const PARTS: [Part; 10] = [
     Part {
         name: "crc",
-        tries: "up to 599 bytes",
+        tries:
+            "by words and singly: up to 599 bytes, 0 to 300 at each of eight offsets, up to 262,150",
         run: blocks::crcs,
     },
     Part {

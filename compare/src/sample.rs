@@ -5,7 +5,7 @@
 //!
 //! | number | |
 //! |---|---|
-//! | 0 | the call: 1 crc32c, 2 check_rmaps, 3 check_refcounts, 4 check_block, 5 plan, 6 build, 7 walk, 8 insert, 9 insert_shared, 10 remove, 11 release, 12 let_go, 13 a walk over blocks that are given one by one, 14 take_held; 0 after the last case |
+//! | 0 | the call: 1 crc32c, 2 check_rmaps, 3 check_refcounts, 4 check_block, 5 plan, 6 build, 7 walk, 8 insert, 9 insert_shared, 10 remove, 11 release, 12 let_go, 13 a walk over blocks that are given one by one, 14 take_held, 15 crc32c_singly; 0 after the last case |
 //! | 1 | the answer |
 //! | 2 to 9 | the four figures, high half first |
 //! | 10 to 13 | version, block size, agblocks, agno |
@@ -43,7 +43,7 @@ use std::collections::BTreeMap;
 const FILL: u8 = 0xA5;
 
 /// The calls by their number in a case.
-const CALLS: [&str; 15] = [
+const CALLS: [&str; 16] = [
     "end",
     "crc32c",
     "check_rmaps",
@@ -59,6 +59,7 @@ const CALLS: [&str; 15] = [
     "let_go",
     "walk of real blocks",
     "take_held",
+    "crc32c_singly",
 ];
 
 #[derive(Default)]
@@ -150,10 +151,20 @@ fn number_bytes(list: &[u32]) -> Vec<u8> {
 }
 
 fn list_cases(r: &mut Random, cases: &mut Cases) {
+    let mut forms = |b: &[u8]| {
+        for call in [1, 15] {
+            cases.add(Case::new(call, (crc32c::crc32c(b), [0; 4])).given(b, &[]));
+        }
+    };
     for n in [0, 1, 3, 9, 32, 100] {
         let b = r.bytes(n);
-        let crc = crc32c::crc32c(&b);
-        cases.add(Case::new(1, (crc, [0; 4])).given(&b, &[]));
+        forms(&b);
+        // Whole words, and bytes after them, where they begin anywhere.
+        if n == 100 {
+            for (from, n) in [(1, 4), (2, 5), (3, 7), (5, 8)] {
+                forms(&b[from..][..n]);
+            }
+        }
     }
     let bad = Rmap {
         startblock: 0,
@@ -455,7 +466,7 @@ pub fn sample(words: &[String]) {
         let mine = cases.seen.iter().filter(|(k, _)| k.0 == call);
         let by: Vec<String> = match call {
             // Its answer is the check itself.
-            1 => vec![format!("{} checks", mine.count())],
+            1 | 15 => vec![format!("{} checks", mine.count())],
             _ => mine.map(|(k, n)| format!("{}: {n}", k.1)).collect(),
         };
         println!("{call} {name}   {}", by.join(", "));

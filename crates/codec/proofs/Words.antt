@@ -2,21 +2,21 @@
 -- steps by words and by single bytes are the division's.
 -- Assumes nothing.
 use mathlib.Core.Path.{_≡_, refl, sym, ap, ap₂, subst, _∙_}
-use mathlib.Core.List.{List, [], _∷_, reverse}
+use mathlib.Core.List.{List, [], _∷_, reverse, reverse-reverse}
 use Prim.Native.Nat.{ℕ, zero, suc, _+_, _*_, _/_, _%_, _^_, _≤_, _<_}
 use native.Mathlib.Nat.{zero-add, suc-add, mul-suc, add-comm, mod-lt, not-suc-le-zero, le-of-suc-le-suc}
 use native.Mathlib.Omega.{arith}
 use lib.Bits.{bitXor, xor-comm, xor-zero-r, xor-mod, xor-shr, xor-shifted, xor-lt}
 use lib.Pow.{pow-pos}
-use lib.ListN.{length, take, drop, replicate, length-drop, length-reverse}
-use lib.Seq.{drop-drop}
-use Rattle.codec.specs.Bytes.{IsBytes, bytesAt, beOf, leOf}
+use lib.ListN.{length, replicate, length-reverse}
+use Rattle.codec.specs.Bytes.{IsBytes, bytesAt, beOf, beBytes, leOf, leBytes}
 use Rattle.codec.specs.Crc.{polynomial, reduced, divideBit, divideBits, crcByte, crcBytes}
 use Rattle.codec.specs.Words.{entry, IsTables, stepByte, sharesOf, crcSingly, crcWords, WordsAreSingles}
 use Rattle.codec.proofs.Xor.{xor-assoc, xor-parts}
 use Rattle.codec.proofs.Division.{reduced-xor, divideBits-high, crcByte-table}
-use Rattle.codec.proofs.Numbers.{beOf-lt, leOf-append}
-use Rattle.codec.proofs.Overwrites.{isBytes-reverse, isBytes-bytesAt}
+use Rattle.codec.proofs.Numbers.{beOf-lt, beBytes-beOf, leOf-append, leOf-leBytes-lt, length-leBytes}
+use Rattle.codec.proofs.Parts.{length-bytesAt}
+use Rattle.codec.proofs.Overwrites.{isBytes-reverse, isBytes-leBytes, isBytes-bytesAt}
 use Rattle.codec.proofs.CrcRange.{crcBytes-lt}
 
 -- ---- the division is linear
@@ -62,6 +62,13 @@ leOf-one b = omega arith
 leOf-lt : (l : List ℕ) → IsBytes l → leOf l < 256 ^ length l
 unfolding leOf
 leOf-lt l h = subst (λ (n : ℕ). beOf (reverse l) < 256 ^ n) (length-reverse l) (beOf-lt (reverse l) (isBytes-reverse l h))
+
+leBytes-leOf : (l : List ℕ) → IsBytes l → leBytes (length l) (leOf l) ≡ l
+unfolding leOf leBytes
+leBytes-leOf l h =
+    ap (λ (n : ℕ). reverse (beBytes n (beOf (reverse l)))) (sym (length-reverse l))
+    ∙ ap reverse (beBytes-beOf (reverse l) (isBytes-reverse l h))
+    ∙ reverse-reverse l
 
 leOf-next : (b : ℕ) (bs : List ℕ) → leOf bs * 256 + b ≡ leOf (b ∷ bs)
 leOf-next b bs = ap (λ (x : ℕ). leOf bs * 256 + x) (sym (leOf-one b)) ∙ sym (leOf-append (b ∷ []) bs)
@@ -160,7 +167,7 @@ word-shares t rule x h =
 
 -- ---- the tables' steps are the division's, on every input
 
-byte-step : (t : List ℕ) → IsTables t → (r b : ℕ) → b < 256 → stepByte t r b ≡ crcByte r b
+pub byte-step : (t : List ℕ) → IsTables t → (r b : ℕ) → b < 256 → stepByte t r b ≡ crcByte r b
 unfolding stepByte
 byte-step t rule r b h =
     ap (λ (x : ℕ). bitXor x (r / 256)) (lookup t rule 0 (bitXor (r % 256) b) (omega arith) (xor-lt 8 (r % 256) b (byte-lt r) h))
@@ -172,6 +179,18 @@ word-step t rule r w hr hw e =
     word-shares t rule (bitXor r (leOf w)) (xor-lt 32 r (leOf w) hr small)
     ∙ ap (λ (n : ℕ). divideBits (8 * n) (bitXor r (leOf w))) (sym e)
     ∙ sym (crcBytes-together w r hw)
+
+-- a word of memory goes in as its four bytes
+pub word-in : (t : List ℕ) → IsTables t → (r word : ℕ) → r < 2 ^ 32 → word < 2 ^ 32 → sharesOf t (bitXor r word) ≡ crcBytes r (leBytes 4 word)
+word-in t rule r word hr hw =
+    ap (λ (x : ℕ). sharesOf t (bitXor r x)) (sym (leOf-leBytes-lt 4 word hw))
+    ∙ word-step t rule r (leBytes 4 word) hr (isBytes-leBytes 4 word) (length-leBytes 4 word)
+
+-- and is read from them
+pub word-at : (l : List ℕ) (at : ℕ) → IsBytes l → at + 4 ≤ length l → leBytes 4 (leOf (bytesAt l at 4)) ≡ bytesAt l at 4
+word-at l at h fits =
+    let w : List ℕ = bytesAt l at 4 in
+    subst (λ (n : ℕ). leBytes n (leOf w) ≡ w) (length-bytesAt l at 4 fits) (leBytes-leOf w (isBytes-bytesAt l at 4 h))
 
 singly : (t : List ℕ) → IsTables t → (r : ℕ) (l : List ℕ) → IsBytes l → crcSingly t r l ≡ crcBytes r l
 unfolding crcSingly crcBytes
@@ -198,30 +217,3 @@ words-are-singles t rule =
       words = words t rule;
       same = λ r l hr hl. words t rule r l hr hl ∙ sym (singly t rule r l hl);
     }
-
--- ---- a list that is taken from its front
-
-four : (t : List ℕ) (r : ℕ) (l : List ℕ) → 4 ≤ length l → crcWords t r l ≡ crcWords t (sharesOf t (bitXor r (leOf (take 4 l)))) (drop 4 l)
-unfolding crcWords
-four t r (a ∷ b ∷ c ∷ d ∷ bs) h = refl
-four t r (a ∷ b ∷ c ∷ []) h = absurd (omega arith)
-four t r (a ∷ b ∷ []) h = absurd (omega arith)
-four t r (a ∷ []) h = absurd (omega arith)
-four t r [] h = absurd (omega arith)
-
--- the next word of a list goes into the register
-pub next-word : (t : List ℕ) (r : ℕ) (l : List ℕ) (at : ℕ) → at + 4 ≤ length l
-    → crcWords t r (drop at l) ≡ crcWords t (sharesOf t (bitXor r (leOf (bytesAt l at 4)))) (drop (at + 4) l)
-unfolding bytesAt
-next-word t r l at h =
-    four t r (drop at l) (rw length-drop (omega arith))
-    ∙ ap (crcWords t (sharesOf t (bitXor r (leOf (take 4 (drop at l)))))) (drop-drop 4 at l)
-
--- fewer bytes than a word go singly
-pub last-bytes : (t : List ℕ) (r : ℕ) (l : List ℕ) → length l < 4 → crcWords t r l ≡ crcSingly t r l
-unfolding crcWords crcSingly
-last-bytes t r (a ∷ b ∷ c ∷ d ∷ bs) h = absurd (omega arith)
-last-bytes t r (a ∷ b ∷ c ∷ []) h = refl
-last-bytes t r (a ∷ b ∷ []) h = refl
-last-bytes t r (a ∷ []) h = refl
-last-bytes t r [] h = refl

@@ -45,6 +45,6 @@ pub record EveryInput (t : List ℕ) : Type 0 where
   pub words : (r : ℕ) (l : List ℕ) → r < 2 ^ 32 → IsBytes l → crcWords t r l ≡ crcBytes r l
   pub same : (r : ℕ) (l : List ℕ) → r < 2 ^ 32 → IsBytes l → crcWords t r l ≡ crcSingly t r l
 
--- from any tables that keep the rule
+-- from any tables that keep the rule, as those do that `codec::crc::tables` returns
 abbrev pub WordsAreSingles : Type 0
 WordsAreSingles = (t : List ℕ) → IsTables t → EveryInput t

@@ -1,12 +1,11 @@
 // CRC32C (RFC 3720, 12.1): the check of every XFS block of version 5.
 ghost use mathlib.Core.Path.{_≡_};
 ghost use Prim.Native.Nat.{_+_, _*_, _/_, _≤_};
-ghost use lib.Bits.{bitXor};
-ghost use lib.ListN.{length, drop};
+ghost use lib.ListN.{length, take};
 ghost use mathlib.Core.List.{[], _∷_};
-ghost use Rattle.codec.specs.Bytes.{withBytes};
-ghost use Rattle.codec.specs.Crc.{crcBytes, crc32cOf};
-ghost use Rattle.codec.specs.Words.{IsTables, stepByte, sharesOf, crcSingly, crcWords};
+ghost use Rattle.codec.specs.Bytes.{leBytes, withBytes};
+ghost use Rattle.codec.specs.Crc.{crcByte, crcBytes, crc32cOf};
+ghost use Rattle.codec.specs.Words.{IsTables};
 use crate::endian::le32;
 
 // Four tables, one after another: the remainder of each byte, then of each byte with one, two and three zero bytes behind it.
@@ -1046,7 +1045,8 @@ fn tables() -> [u32; 1024]
 
 // The register after one byte more.
 fn crc_byte(entries: &[u32; 1024], crc: u32, b: u8) -> u32
-    ensures { λ r. ⌜ r ≡ stepByte (now (entries .entry)) crc b ⌝ }
+    requires { ⌜ IsTables (now entries) ⌝ }
+    ensures { λ r. ⌜ r ≡ crcByte crc b ⌝ }
 {
     let low = (crc % 256) as u8;
     let n = (low ^ b) as usize;
@@ -1055,7 +1055,8 @@ fn crc_byte(entries: &[u32; 1024], crc: u32, b: u8) -> u32
 
 // The register after the four bytes of a word, the lowest first.
 fn crc_word(entries: &[u32; 1024], crc: u32, word: u32) -> u32
-    ensures { λ r. ⌜ r ≡ sharesOf (now (entries .entry)) (bitXor crc word) ⌝ }
+    requires { ⌜ IsTables (now entries) ⌝ }
+    ensures { λ r. ⌜ r ≡ crcBytes crc (leBytes 4 word) ⌝ }
 {
     let x = crc ^ word;
     let first = (x % 256) as usize;
@@ -1067,7 +1068,8 @@ fn crc_word(entries: &[u32; 1024], crc: u32, word: u32) -> u32
 
 // The register after the bytes of `s`, one at a step.
 fn crc_singly(entries: &[u32; 1024], crc: u32, s: &[u8]) -> u32
-    ensures { λ r. ⌜ r ≡ crcSingly (now (entries .entry)) crc (now (s .entry)) ⌝ }
+    requires { ⌜ IsTables (now entries) ⌝ }
+    ensures { λ r. ⌜ r ≡ crcBytes crc (now (s .entry)) ⌝ }
 {
     let mut r = crc;
     let mut i = 0;
@@ -1078,9 +1080,10 @@ fn crc_singly(entries: &[u32; 1024], crc: u32, s: &[u8]) -> u32
     r
 }
 
-// The register after the whole words of `s`, a word at a step: the last bytes, taken singly, make the whole of it.
+// The register after the whole words of `s`, a word at a step.
 fn crc_words(entries: &[u32; 1024], crc: u32, s: &[u8]) -> u32
-    ensures { λ r. ⌜ crcSingly (now (entries .entry)) r (drop (length (now (s .entry)) / 4 * 4) (now (s .entry))) ≡ crcWords (now (entries .entry)) crc (now (s .entry)) ⌝ }
+    requires { ⌜ IsTables (now entries) ⌝ }
+    ensures { λ r. ⌜ r ≡ crcBytes crc (take (length (now (s .entry)) / 4 * 4) (now (s .entry))) ⌝ }
 {
     let n = s.len() / 4;
     let mut r = crc;
@@ -1103,7 +1106,7 @@ fn crc_bytes(entries: &[u32; 1024], crc: u32, s: &[u8]) -> u32
     crc_singly(entries, r, &s[from..])
 }
 
-// The check of `s`.
+// The check of `s`, by words.
 pub fn crc32c(s: &[u8]) -> u32
     ensures { λ r. ⌜ r ≡ crc32cOf (now (s .entry)) ⌝ }
 {
@@ -1111,7 +1114,7 @@ pub fn crc32c(s: &[u8]) -> u32
     crc_bytes(&entries, 0xFFFF_FFFF, s) ^ 0xFFFF_FFFF
 }
 
-// The check of `s` by the single-byte form, which the form by words is measured against.
+// The check of `s`, by single bytes: what the form by words is measured against.
 pub fn crc32c_singly(s: &[u8]) -> u32
     ensures { λ r. ⌜ r ≡ crc32cOf (now (s .entry)) ⌝ }
 {

@@ -47,38 +47,41 @@ fn refcounts(name: &[u8], list: &[u8]) {
     answer(name, refcount::check_order(list));
 }
 
-fn checks() {
-    line(b"zeros", crc::crc32c(&[0u8; 32]));
-    line(b"ones", crc::crc32c(&[0xFFu8; 32]));
-    line(
-        b"rising",
-        crc::crc32c(
-            b"\x00\x01\x02\x03\x04\x05\x06\x07\x08\x09\x0A\x0B\x0C\x0D\x0E\x0F\x10\x11\x12\x13\x14\x15\x16\x17\x18\x19\x1A\x1B\x1C\x1D\x1E\x1F",
-        ),
-    );
-    line(
-        b"falling",
-        crc::crc32c(
-            b"\x1F\x1E\x1D\x1C\x1B\x1A\x19\x18\x17\x16\x15\x14\x13\x12\x11\x10\x0F\x0E\x0D\x0C\x0B\x0A\x09\x08\x07\x06\x05\x04\x03\x02\x01\x00",
-        ),
-    );
-    // An iSCSI SCSI Read (10) Command PDU. Its bytes 4 to 7 are zeros.
-    let mut pdu =
-        *b"\x01\xC0\0\0\0\0\0\0\0\0\0\0\0\0\0\0\x14\0\0\0\0\0\x04\0\0\0\0\x14\0\0\0\x18\x28\0\0\0\0\0\0\0\x02\0\0\0\0\0\0\0";
-    let check = crc::crc32c(&pdu);
-    line(b"pdu", check);
-    endian::put_le32(&mut pdu, 4, check);
-    line(b"field", endian::be32(&pdu, 4));
-    line(b"read", endian::le32(&pdu, 4));
-    line(b"zeroed", crc::crc32c_with_zeroed_crc(&pdu, 4));
-}
-
-// Both forms of the check, on inputs shorter than a word, of whole words, and with bytes after them.
+// The check of the bytes, by words and by single bytes.
 fn forms(name: &[u8], bytes: &[u8]) {
     line(name, crc::crc32c(bytes));
     line(name, crc::crc32c_singly(bytes));
 }
 
+fn checks() {
+    forms(b"zeros", &[0u8; 32]);
+    forms(b"ones", &[0xFFu8; 32]);
+    forms(
+        b"rising",
+        b"\x00\x01\x02\x03\x04\x05\x06\x07\x08\x09\x0A\x0B\x0C\x0D\x0E\x0F\x10\x11\x12\x13\x14\x15\x16\x17\x18\x19\x1A\x1B\x1C\x1D\x1E\x1F",
+    );
+    forms(
+        b"falling",
+        b"\x1F\x1E\x1D\x1C\x1B\x1A\x19\x18\x17\x16\x15\x14\x13\x12\x11\x10\x0F\x0E\x0D\x0C\x0B\x0A\x09\x08\x07\x06\x05\x04\x03\x02\x01\x00",
+    );
+    // An iSCSI SCSI Read (10) Command PDU. Its bytes 4 to 7 are zeros.
+    let mut pdu =
+        *b"\x01\xC0\0\0\0\0\0\0\0\0\0\0\0\0\0\0\x14\0\0\0\0\0\x04\0\0\0\0\x14\0\0\0\x18\x28\0\0\0\0\0\0\0\x02\0\0\0\0\0\0\0";
+    forms(b"pdu", &pdu);
+    let check = crc::crc32c(&pdu);
+    endian::put_le32(&mut pdu, 4, check);
+    line(b"field", endian::be32(&pdu, 4));
+    line(b"read", endian::le32(&pdu, 4));
+    line(b"zeroed", crc::crc32c_with_zeroed_crc(&pdu, 4));
+    // Of these parts only the zeros are whole words.
+    line(
+        b"zeroed at 5",
+        crc::crc32c_with_zeroed_crc(b"123456789012345", 5),
+    );
+    forms(b"zeros at 5", b"12345\0\0\0\0012345");
+}
+
+// Shorter than a word, whole words, and words with bytes after them.
 fn lengths() {
     forms(b"0 bytes", b"");
     forms(b"1 byte", b"1");

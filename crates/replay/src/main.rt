@@ -9,6 +9,7 @@ use exports::block_calls::kf_check_block;
 use exports::block_calls::kf_check_refcounts;
 use exports::block_calls::kf_check_rmaps;
 use exports::block_calls::kf_crc32c;
+use exports::block_calls::kf_crc32c_singly;
 use exports::list_calls::kf_insert;
 use exports::list_calls::kf_insert_shared;
 use exports::list_calls::kf_let_go;
@@ -87,7 +88,8 @@ fn on_list(head: &[u8], call: u32, list: &[u8]) -> bool {
     let answer = match call {
         1 => kf_crc32c(list),
         2 => kf_check_rmaps(list),
-        _ => kf_check_refcounts(list),
+        3 => kf_check_refcounts(list),
+        _ => kf_crc32c_singly(list),
     };
     answer == number(head, 1)
 }
@@ -405,7 +407,7 @@ fn call_as_due(
 ) -> bool {
     let call = number(head, 0);
     match call {
-        1 | 2 | 3 => on_list(head, call, a),
+        1 | 2 | 3 | 15 => on_list(head, call, a),
         4 => on_block(head, a),
         5 => on_plan(head, a),
         6 => on_build(head, a, b, x, list),

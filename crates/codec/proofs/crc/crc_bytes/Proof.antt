@@ -1,15 +1,14 @@
 -- `codec::crc::crc_bytes` meets its contract: the whole words, and the bytes after them.
 -- Assumes nothing.
-use mathlib.Core.Path.{ap, _∙_}
+use mathlib.Core.Path.{ap, ap₂, _∙_}
 use mathlib.Core.List.{List}
 use Prim.Native.Nat.{ℕ, _*_, _/_}
 use native.Mathlib.Nat.{le-of-eq}
 use borrow.Author.Needs.{needs}
-use lib.ListN.{length, drop, length-drop}
+use lib.ListN.{length, take, drop, length-drop, take-append-drop}
 use lib.Seq.{take-all}
-use Rattle.codec.specs.Bytes.{IsBytes}
-use Rattle.codec.specs.Words.{crcSingly}
-use Rattle.codec.proofs.Words.{words-are-singles}
+use Rattle.codec.specs.Crc.{crcBytes}
+use Rattle.codec.proofs.Division.{crcBytes-append}
 use Rattle.codec.proofs.crc.crc_bytes.Statement.{statement}
 use Rattle.codec.proofs.crc.crc_bytes.Tie as tie
 
@@ -33,15 +32,13 @@ crc-singly-requires c κs = search needs
 
 returns : tie.Need-returns
 returns c =
-    let start = c .before .before .before .before in
-    let t : List ℕ = start .args .entries .now in
-    let s : List ℕ = start .args .s .now in
+    let a = c .before .before .before .before .args in
+    let s : List ℕ = a .s .now in
     let k : ℕ = length s / 4 * 4 in
-    let small : IsBytes s = λ i. c .before .before .before .shared-slice-known .given i .fits in
     c .crc-singly .ensures
-    ∙ ap (crcSingly t _) (take-all _ (drop k s) (le-of-eq (length-drop k s)))
-    ∙ c .before .before .crc-words .ensures
-    ∙ words-are-singles t (start .pre) .words (start .args .crc) s (start .fits .crc .fits) small
+    ∙ ap₂ crcBytes (c .before .before .crc-words .ensures) (take-all _ (drop k s) (le-of-eq (length-drop k s)))
+    ∙ crcBytes-append (a .crc) (take k s) (drop k s)
+    ∙ ap (crcBytes (a .crc)) (take-append-drop k s)
 
 pub crc-bytes-spec : {M : Type 1} → statement M
 crc-bytes-spec =
