@@ -9,7 +9,7 @@ use oracle::timing::best;
 use oracle::{bare, paper, set_backend, Backend, Geometry, Tree};
 use std::time::Duration;
 
-const TIMES: usize = 7;
+const TIMES: usize = 15;
 
 struct Row {
     what: String,
@@ -65,6 +65,14 @@ fn row<A, B>(
     }
 }
 
+/// A number with its thousands apart.
+fn apart(n: usize) -> String {
+    match n {
+        0..1000 => n.to_string(),
+        _ => format!("{},{:03}", apart(n / 1000), n % 1000),
+    }
+}
+
 /// The checks of so many parts of the bytes, together.
 fn fold(bytes: &[u8], size: usize, crc: fn(&[u8]) -> u32) -> u32 {
     bytes.chunks_exact(size).fold(0, |x, c| x ^ crc(c))
@@ -110,7 +118,7 @@ fn check_forms(rows: &mut Vec<Forms>) {
     let all = r.bytes(4096 * 4096);
     for size in [4096, 512, 64] {
         rows.push(Forms {
-            what: format!("CRC32C of {size} bytes"),
+            what: format!("CRC32C of {} bytes", apart(size)),
             size: format!("{} times", all.len() / size),
             words: best(TIMES, || fold(&all, size, library::crc32c)).0,
             singly: Some(best(TIMES, || fold(&all, size, library::crc32c_singly)).0),
@@ -129,14 +137,14 @@ fn tree_forms(rows: &mut Vec<Forms>) {
         let mut lent = Lent::of(&s);
         let mut out = vec![0; s.image.bytes.len()];
         rows.push(Forms {
-            what: format!("block check at {size}"),
+            what: format!("block check at {}", apart(size)),
             size: format!("{} leaves", s.leaves),
             words: best(TIMES, || s.check_library()).0,
             singly: None,
             original: by_forms(|| s.check_original()),
         });
         rows.push(Forms {
-            what: format!("walk at {size}"),
+            what: format!("walk at {}", apart(size)),
             size: format!("{n} records"),
             words: best(TIMES, || s.walk_library(&mut lent)).0,
             singly: None,
@@ -144,7 +152,7 @@ fn tree_forms(rows: &mut Vec<Forms>) {
         });
         assert!(lent.records == s.list);
         rows.push(Forms {
-            what: format!("build at {size}"),
+            what: format!("build at {}", apart(size)),
             size: format!("{n} records"),
             words: best(TIMES, || s.build_library(&mut out)).0,
             singly: None,
