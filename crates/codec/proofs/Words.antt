@@ -4,15 +4,15 @@
 use mathlib.Core.Path.{_≡_, refl, sym, ap, ap₂, subst, _∙_}
 use mathlib.Core.List.{List, [], _∷_, reverse, reverse-reverse}
 use Prim.Native.Nat.{ℕ, zero, suc, _+_, _*_, _/_, _%_, _^_, _≤_, _<_}
-use native.Mathlib.Nat.{zero-add, suc-add, mul-suc, add-comm, mod-lt, not-suc-le-zero, le-of-suc-le-suc}
+use native.Mathlib.Nat.{zero-add, suc-add, mul-suc, add-comm, mod-lt, le-of-eq, not-suc-le-zero, le-of-suc-le-suc}
 use native.Mathlib.Omega.{arith}
 use lib.Bits.{bitXor, xor-comm, xor-zero-r, xor-mod, xor-shr, xor-shifted, xor-lt}
 use lib.Pow.{pow-pos}
-use lib.ListN.{length, replicate, length-reverse}
+use lib.ListN.{length, getD, replicate, length-reverse}
 use Rattle.codec.specs.Bytes.{IsBytes, bytesAt, beOf, beBytes, leOf, leBytes}
 use Rattle.codec.specs.Crc.{polynomial, reduced, divideBit, divideBits, crcByte, crcBytes}
-use Rattle.codec.specs.Words.{entry, IsTables, stepByte, sharesOf, crcSingly, crcWords, WordsAreSingles}
-use Rattle.codec.proofs.Xor.{xor-assoc, xor-parts}
+use Rattle.codec.specs.Words.{entry, IsTables, stepByte, sharesOf, stepWord, crcSingly, crcWords, WordsAreSingles}
+use Rattle.codec.proofs.Xor.{xor-assoc}
 use Rattle.codec.proofs.Division.{reduced-xor, divideBits-high, crcByte-table}
 use Rattle.codec.proofs.Numbers.{beOf-lt, beBytes-beOf, leOf-append, leOf-leBytes-lt, length-leBytes}
 use Rattle.codec.proofs.Parts.{length-bytesAt}
@@ -88,7 +88,7 @@ crcBytes-together (b ∷ bs) r h =
     ∙ xor-assoc r (rest * 256) b
     ∙ ap (bitXor r) (xor-shifted rest 8 b (h 0) ∙ leOf-next b bs))
 
--- ---- a word by its four bytes
+-- ---- bytes by their shares
 
 crcBytes-zeros : (z r : ℕ) → crcBytes r (replicate z 0) ≡ divideBits (8 * z) r
 unfolding crcBytes crcByte divideBits
@@ -104,68 +104,29 @@ share : (z n : ℕ) → crcBytes 0 (n ∷ replicate z 0) ≡ divideBits (8 + 8 *
 unfolding crcBytes crcByte
 share z n = crcBytes-zeros z (divideBits 8 n) ∙ sym (divideBits-add 8 (8 * z) n)
 
-nothing : (k : ℕ) → divideBits k 0 ≡ 0
-unfolding divideBits divideBit
-nothing zero = refl
-nothing (suc k) = nothing k
-
--- k steps bring digits above the k low ones down
-down : (k hi : ℕ) → divideBits k (hi * 2 ^ k) ≡ hi
-down k hi =
-    ap (divideBits k) (sym (xor-zero-r (hi * 2 ^ k))) ∙ divideBits-high k hi 0 ∙ ap (bitXor hi) (nothing k) ∙ xor-zero-r hi
-
--- the digits above the k low ones, and those
-apart : (k m x : ℕ) → divideBits (k + m) x ≡ bitXor (divideBits m (x / 2 ^ k)) (divideBits (k + m) (x % 2 ^ k))
-apart k m x =
-    ap (divideBits (k + m)) (sym (xor-parts x k))
-    ∙ divideBits-xor (k + m) (x / 2 ^ k * 2 ^ k) (x % 2 ^ k)
-    ∙ ap (λ (y : ℕ). bitXor y (divideBits (k + m) (x % 2 ^ k)))
-    (divideBits-add k m (x / 2 ^ k * 2 ^ k) ∙ ap (divideBits m) (down k (x / 2 ^ k)))
-
 -- what a table has
 lookup : (t : List ℕ) → IsTables t → (z n : ℕ) → z < 4 → n < 256 → entry t z n ≡ divideBits (8 + 8 * z) n
 lookup t rule z n hz hn = rule z n hz hn ∙ share z n
 
-low-third : (x : ℕ) → x % 0x100_0000 / 0x1_0000 ≡ x / 0x1_0000 % 256
-low-third x = omega arith
+-- the shares of bytes that go in together make what their number makes
+shares : (t : List ℕ) → IsTables t → (l : List ℕ) → IsBytes l → length l ≤ 4 → sharesOf t l ≡ divideBits (8 * length l) (leOf l)
+unfolding sharesOf leOf beOf divideBits
+shares t rule [] h few = refl
+shares t rule (b ∷ bs) h few =
+    let rest : ℕ = leOf bs in
+    let n : ℕ = length bs in
+    ap₂ bitXor (lookup t rule n b (omega arith) (h 0)) (shares t rule bs (λ i. h (suc i)) (omega arith))
+    ∙ xor-comm (divideBits (8 + 8 * n) b) (divideBits (8 * n) rest)
+    ∙ ap (bitXor (divideBits (8 * n) rest)) (divideBits-add 8 (8 * n) b)
+    ∙ sym (divideBits-xor (8 * n) rest (divideBits 8 b))
+    ∙ ap (divideBits (8 * n)) (sym (divideBits-high 8 rest b))
+    ∙ sym (divideBits-add 8 (8 * n) (bitXor (rest * 256) b))
+    ∙ ap₂ divideBits (add-comm 8 (8 * n) ∙ sym (mul-suc 8 n)) (xor-shifted rest 8 b (h 0) ∙ leOf-next b bs)
 
-low-half : (x : ℕ) → x % 0x100_0000 % 0x1_0000 ≡ x % 0x1_0000
-low-half x = omega arith
-
-low-second : (x : ℕ) → x % 0x1_0000 / 256 ≡ x / 256 % 256
-low-second x = omega arith
-
-low-first : (x : ℕ) → x % 0x1_0000 % 256 ≡ x % 256
-low-first x = omega arith
+-- ---- the tables' steps are the division's, on every input
 
 byte-lt : (x : ℕ) → x % 256 < 256
 byte-lt x = omega arith
-
-high-lt : (x : ℕ) → x < 2 ^ 32 → x / 0x100_0000 < 256
-high-lt x h = omega arith
-
--- the shares of a word's four bytes make the word's
-word-shares : (t : List ℕ) → IsTables t → (x : ℕ) → x < 2 ^ 32 → sharesOf t x ≡ divideBits 32 x
-unfolding sharesOf
-word-shares t rule x h =
-    let a : ℕ = divideBits 32 (x % 256) in
-    let b : ℕ = divideBits 24 (x / 256 % 256) in
-    let c : ℕ = divideBits 16 (x / 0x1_0000 % 256) in
-    let d : ℕ = divideBits 8 (x / 0x100_0000) in
-    ap₂ bitXor (ap₂ bitXor (lookup t rule 3 (x % 256) (omega arith) (byte-lt x)) (lookup t rule 2 (x / 256 % 256) (omega arith) (byte-lt (x / 256))))
-    (ap₂ bitXor (lookup t rule 1 (x / 0x1_0000 % 256) (omega arith) (byte-lt (x / 0x1_0000))) (lookup t rule 0 (x / 0x100_0000) (omega arith) (high-lt x h)))
-    ∙ xor-comm (bitXor a b) (bitXor c d)
-    ∙ ap₂ bitXor (xor-comm c d) (xor-comm a b)
-    ∙ xor-assoc d c (bitXor b a)
-    ∙ sym
-    (apart 24 8 x
-    ∙ ap (bitXor d)
-    (apart 16 16 (x % 0x100_0000)
-    ∙ ap₂ (λ (n m : ℕ). bitXor (divideBits 16 n) (divideBits 32 m)) (low-third x) (low-half x)
-    ∙ ap (bitXor c)
-    (apart 8 24 (x % 0x1_0000) ∙ ap₂ (λ (n m : ℕ). bitXor (divideBits 24 n) (divideBits 32 m)) (low-second x) (low-first x))))
-
--- ---- the tables' steps are the division's, on every input
 
 pub byte-step : (t : List ℕ) → IsTables t → (r b : ℕ) → b < 256 → stepByte t r b ≡ crcByte r b
 unfolding stepByte
@@ -173,20 +134,44 @@ byte-step t rule r b h =
     ap (λ (x : ℕ). bitXor x (r / 256)) (lookup t rule 0 (bitXor (r % 256) b) (omega arith) (xor-lt 8 (r % 256) b (byte-lt r) h))
     ∙ crcByte-table r b
 
-word-step : (t : List ℕ) → IsTables t → (r : ℕ) (w : List ℕ) → r < 2 ^ 32 → IsBytes w → length w ≡ 4 → sharesOf t (bitXor r (leOf w)) ≡ crcBytes r w
-word-step t rule r w hr hw e =
-    let small : leOf w < 2 ^ 32 = subst (λ (n : ℕ). leOf w < 256 ^ n) e (leOf-lt w hw) in
-    word-shares t rule (bitXor r (leOf w)) (xor-lt 32 r (leOf w) hr small)
-    ∙ ap (λ (n : ℕ). divideBits (8 * n) (bitXor r (leOf w))) (sym e)
-    ∙ sym (crcBytes-together w r hw)
+pub word-step : (t : List ℕ) → IsTables t → (r word : ℕ) → r < 2 ^ 32 → word < 2 ^ 32 → stepWord t r word ≡ crcBytes r (leBytes 4 word)
+unfolding stepWord
+word-step t rule r word hr hw =
+    let x : ℕ = bitXor r word in
+    shares t rule (leBytes 4 x) (isBytes-leBytes 4 x) (le-of-eq (length-leBytes 4 x))
+    ∙ ap₂ (λ (n y : ℕ). divideBits (8 * n) y) (length-leBytes 4 x) (leOf-leBytes-lt 4 x (xor-lt 32 r word hr hw))
+    ∙ sym
+    (crcBytes-together (leBytes 4 word) r (isBytes-leBytes 4 word)
+    ∙ ap₂ (λ (n y : ℕ). divideBits (8 * n) (bitXor r y)) (length-leBytes 4 word) (leOf-leBytes-lt 4 word hw))
 
--- a word of memory goes in as its four bytes
-pub word-in : (t : List ℕ) → IsTables t → (r word : ℕ) → r < 2 ^ 32 → word < 2 ^ 32 → sharesOf t (bitXor r word) ≡ crcBytes r (leBytes 4 word)
-word-in t rule r word hr hw =
-    ap (λ (x : ℕ). sharesOf t (bitXor r x)) (sym (leOf-leBytes-lt 4 word hw))
-    ∙ word-step t rule r (leBytes 4 word) hr (isBytes-leBytes 4 word) (length-leBytes 4 word)
+-- the four bytes of a number
+four-bytes : (x : ℕ) → x < 2 ^ 32 → leBytes 4 x ≡ x % 256 ∷ x / 256 % 256 ∷ x / 0x1_0000 % 256 ∷ x / 0x100_0000 ∷ []
+unfolding leBytes beBytes
+four-bytes x h =
+    let first : x / 1 % 256 ≡ x % 256 = omega arith in
+    let fourth : x / 0x100_0000 % 256 ≡ x / 0x100_0000 = omega arith in
+    ap₂ (λ (a d : ℕ). a ∷ x / 256 % 256 ∷ x / 0x1_0000 % 256 ∷ d ∷ []) first fourth
 
--- and is read from them
+-- their shares, as the code adds them
+four-shares : (t : List ℕ) (a b c d : ℕ)
+    → bitXor (bitXor (getD t (768 + a) 0) (getD t (512 + b) 0)) (bitXor (getD t (256 + c) 0) (getD t d 0)) ≡ sharesOf t (a ∷ b ∷ c ∷ d ∷ [])
+unfolding sharesOf
+four-shares t a b c d =
+    xor-assoc (entry t 3 a) (entry t 2 b) (bitXor (entry t 1 c) (getD t d 0))
+    ∙ ap (λ (y : ℕ). bitXor (entry t 3 a) (bitXor (entry t 2 b) (bitXor (entry t 1 c) y)))
+    (ap (λ (k : ℕ). getD t k 0) (sym (zero-add d)) ∙ sym (xor-zero-r (entry t 0 d)))
+
+pub word-shares : (t : List ℕ) (r word : ℕ) → r < 2 ^ 32 → word < 2 ^ 32
+    → let x : ℕ = bitXor r word in
+    bitXor (bitXor (getD t (768 + x % 256) 0) (getD t (512 + x / 256 % 256) 0)) (bitXor (getD t (256 + x / 0x1_0000 % 256) 0) (getD t (x / 0x100_0000) 0))
+    ≡ stepWord t r word
+unfolding stepWord
+word-shares t r word hr hw =
+    let x : ℕ = bitXor r word in
+    four-shares t (x % 256) (x / 256 % 256) (x / 0x1_0000 % 256) (x / 0x100_0000)
+    ∙ ap (sharesOf t) (sym (four-bytes x (xor-lt 32 r word hr hw)))
+
+-- a word of a list is read from its four bytes
 pub word-at : (l : List ℕ) (at : ℕ) → IsBytes l → at + 4 ≤ length l → leBytes 4 (leOf (bytesAt l at 4)) ≡ bytesAt l at 4
 word-at l at h fits =
     let w : List ℕ = bytesAt l at 4 in
@@ -203,7 +188,8 @@ unfolding crcWords crcBytes bytesAt
 words t rule r (a ∷ b ∷ c ∷ d ∷ bs) hr h =
     let w : List ℕ = a ∷ b ∷ c ∷ d ∷ [] in
     let hw : IsBytes w = isBytes-bytesAt (a ∷ b ∷ c ∷ d ∷ bs) 0 4 h in
-    ap (λ (x : ℕ). crcWords t x bs) (word-step t rule r w hr hw refl)
+    ap (λ (x : ℕ). crcWords t x bs)
+    (word-step t rule r (leOf w) hr (leOf-lt w hw) ∙ ap (crcBytes r) (leBytes-leOf w hw))
     ∙ words t rule (crcBytes r w) bs (crcBytes-lt w r hw hr) (λ i. h (suc (suc (suc (suc i)))))
 words t rule r (a ∷ b ∷ c ∷ []) hr h = singly t rule r (a ∷ b ∷ c ∷ []) h
 words t rule r (a ∷ b ∷ []) hr h = singly t rule r (a ∷ b ∷ []) h

@@ -5,8 +5,8 @@ use Prim.Native.Nat.{ℕ, _+_, _*_, _/_, _%_, _^_, _<_}
 use mathlib.Core.List.{List, [], _∷_}
 use mathlib.Core.Path.{_≡_}
 use lib.Bits.{bitXor}
-use lib.ListN.{getD, replicate}
-use Rattle.codec.specs.Bytes.{IsBytes, leOf}
+use lib.ListN.{length, getD, replicate}
+use Rattle.codec.specs.Bytes.{IsBytes, leOf, leBytes}
 use Rattle.codec.specs.Crc.{crcBytes}
 
 -- four tables of 256 entries, one after another; the z-th, from 0 on, at n
@@ -21,19 +21,23 @@ IsTables t = (z n : ℕ) → z < 4 → n < 256 → entry t z n ≡ crcBytes 0 (n
 unfoldable pub stepByte : List ℕ → ℕ → ℕ → ℕ
 stepByte t r b = bitXor (entry t 0 (bitXor (r % 256) b)) (r / 256)
 
--- the shares of a number's four bytes, of which the lowest goes first
-unfoldable pub sharesOf : List ℕ → ℕ → ℕ
-sharesOf t x =
-    bitXor (bitXor (entry t 3 (x % 256)) (entry t 2 (x / 256 % 256))) (bitXor (entry t 1 (x / 0x1_0000 % 256)) (entry t 0 (x / 0x100_0000)))
+-- what bytes that go in together make: the share of each is in the table that has as many zero bytes as there are bytes behind it
+unfoldable pub sharesOf : List ℕ → List ℕ → ℕ
+sharesOf t [] = 0
+sharesOf t (b ∷ bs) = bitXor (entry t (length bs) b) (sharesOf t bs)
+
+-- the register after a word more, four bytes as one number with the first lowest: the register is added to it, and the four go in together
+unfoldable pub stepWord : List ℕ → ℕ → ℕ → ℕ
+stepWord t r word = sharesOf t (leBytes 4 (bitXor r word))
 
 -- the register after the bytes of a list, one at a step
 unfoldable pub crcSingly : List ℕ → ℕ → List ℕ → ℕ
 crcSingly t r [] = r
 crcSingly t r (b ∷ bs) = crcSingly t (stepByte t r b) bs
 
--- four at a step, as one number with the first byte lowest; fewer than four are the last bytes, and go singly
+-- four at a step; fewer than four are the last bytes, and go singly
 unfoldable pub crcWords : List ℕ → ℕ → List ℕ → ℕ
-crcWords t r (a ∷ b ∷ c ∷ d ∷ bs) = crcWords t (sharesOf t (bitXor r (leOf (a ∷ b ∷ c ∷ d ∷ [])))) bs
+crcWords t r (a ∷ b ∷ c ∷ d ∷ bs) = crcWords t (stepWord t r (leOf (a ∷ b ∷ c ∷ d ∷ []))) bs
 crcWords t r (a ∷ b ∷ c ∷ []) = crcSingly t r (a ∷ b ∷ c ∷ [])
 crcWords t r (a ∷ b ∷ []) = crcSingly t r (a ∷ b ∷ [])
 crcWords t r (a ∷ []) = crcSingly t r (a ∷ [])

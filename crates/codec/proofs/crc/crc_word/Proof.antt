@@ -1,15 +1,12 @@
 -- `codec::crc::crc_word` meets its contract: the shares of the four bytes make what the bytes make singly.
 -- Assumes nothing.
-use mathlib.Core.Path.{sym, ap, _∙_}
+use mathlib.Core.Path.{_∙_}
 use mathlib.Core.List.{List}
-use Prim.Native.Nat.{ℕ, _+_, _/_, _%_, _^_, _<_}
-use native.Mathlib.Nat.{zero-add}
+use Prim.Native.Nat.{ℕ, _^_, _<_}
 use native.Mathlib.Omega.{arith}
 use borrow.Author.Needs.{needs}
 use lib.Bits.{bitXor, xor-lt}
-use lib.ListN.{getD}
-use Rattle.codec.specs.Words.{sharesOf}
-use Rattle.codec.proofs.Words.{word-in}
+use Rattle.codec.proofs.Words.{word-shares, word-step}
 use Rattle.codec.proofs.crc.crc_word.Statement.{statement}
 use Rattle.codec.proofs.crc.crc_word.Tie as tie
 
@@ -62,16 +59,12 @@ element-copy-out-result-4 : tie.Need-element-copy-out-result-4
 element-copy-out-result-4 c = omega (arith, word-lt (c .before .before .before))
 
 returns : tie.Need-returns
-unfolding sharesOf
 returns c =
     let start = c .before .before .before .before in
     let a = start .args in
     let t : List ℕ = a .entries .now in
-    let x : ℕ = bitXor (a .crc) (a .word) in
-    ap
-    (λ (k : ℕ). bitXor (bitXor (getD t (768 + x % 256) 0) (getD t (512 + x / 256 % 256) 0)) (bitXor (getD t (256 + x / 0x1_0000 % 256) 0) (getD t k 0)))
-    (sym (zero-add (x / 0x100_0000)))
-    ∙ word-in t (start .pre) (a .crc) (a .word) (start .fits .crc .fits) (start .fits .word .fits)
+    word-shares t (a .crc) (a .word) (start .fits .crc .fits) (start .fits .word .fits)
+    ∙ word-step t (start .pre) (a .crc) (a .word) (start .fits .crc .fits) (start .fits .word .fits)
 
 pub crc-word-spec : {M : Type 1} → statement M
 crc-word-spec =
