@@ -1,5 +1,5 @@
-//! Says where the static library is: in the folder that KF_LIB_DIR names,
-//! else where `rt staticlib exports` puts it.
+//! Says where the two archives of the library are: in the folder that
+//! KF_LIB_DIR names, else where `rt staticlib` puts them.
 
 use std::env;
 use std::path::PathBuf;
@@ -11,10 +11,12 @@ fn main() {
         Some(d) => PathBuf::from(d),
         None => here.join("../target/staticlib"),
     };
-    println!(
-        "cargo:rerun-if-changed={}",
-        dir.join("libexports.a").display()
-    );
     println!("cargo:rustc-link-search=native={}", dir.display());
-    println!("cargo:rustc-link-lib=static:-bundle=exports");
+    for name in ["tree_calls", "list_calls"] {
+        println!(
+            "cargo:rerun-if-changed={}",
+            dir.join(format!("lib{name}.a")).display()
+        );
+        println!("cargo:rustc-link-lib=static:-bundle={name}");
+    }
 }

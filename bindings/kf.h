@@ -1,4 +1,5 @@
-/* The C interface of the group trees. Link target/staticlib/libexports.a, made by `rt staticlib exports`.
+/* The C interface of the group trees. Link target/staticlib/libtree_calls.a and target/staticlib/liblist_calls.a, made by
+ * `rt staticlib tree_calls` and `rt staticlib list_calls`.
  *
  * A slice passes as a pointer, which is not null, and the number of its elements. No two slices of a call overlap where one of them is
  * written. Every call but the two of CRC32C answers 0 where it was done, else the number of the first question that failed, and writes the four

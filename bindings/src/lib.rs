@@ -4,16 +4,17 @@
 //!
 //! # Building
 //!
-//! In the repository's folder `rt staticlib exports` proves the library and
-//! writes `target/staticlib/libexports.a`. Then, in this folder,
+//! In the repository's folder `rt staticlib tree_calls` and `rt staticlib
+//! list_calls` prove the library and write `libtree_calls.a` and
+//! `liblist_calls.a` to `target/staticlib`. Then, in this folder,
 //!
 //! ```sh
 //! cargo test
 //! ```
 //!
-//! Where the static library is elsewhere, the environment variable
-//! `KF_LIB_DIR` names its folder. No crate of a registry is needed. A C
-//! program includes `kf.h` and links the same static library.
+//! Where the two archives are elsewhere, the environment variable
+//! `KF_LIB_DIR` names their folder. No crate of a registry is needed. A C
+//! program includes `kf.h` and links the same two.
 //!
 //! # Lists, answers, lent memory
 //!

@@ -17,6 +17,7 @@ use Rattle.codec.proofs.Overwrites.{isBytes-bytesAt}
 use Rattle.blocks.specs.declared.geometry.Geometry.{Geometry}
 use Rattle.blocks.specs.declared.kind.TreeKind.{TreeKind}
 use Rattle.blocks.specs.declared.check.Header.{Header}
+use Rattle.blocks.specs.Offsets.{levelAt, numrecsAt}
 use Rattle.blocks.specs.Geometry.{geometryOk}
 use Rattle.blocks.specs.Tree.{headerLen, hasTree, placeLen, capacity}
 use Rattle.blocks.specs.Check.{identityQuestions, contentQuestions, treeQuestions, blockQuestions, headerOf, checkBlock}
@@ -28,11 +29,11 @@ pub record Accepted (g : Geometry) (kind : TreeKind) (level : ℕ) (b : List ℕ
   -- the header lies in the block, and says what the block has
   pub long : headerLen (g .version) ≤ length b
   pub says : h ≡ headerOf g kind level b
-  pub at-level : beOf (bytesAt b 4 2) ≡ level
+  pub at-level : beOf (bytesAt b levelAt 2) ≡ level
   -- its parts
   pub level-is : h .level ≡ level
   pub body-is : h .body ≡ headerLen (g .version)
-  pub numrecs-is : h .numrecs ≡ beOf (bytesAt b 6 2)
+  pub numrecs-is : h .numrecs ≡ beOf (bytesAt b numrecsAt 2)
   pub maxrecs-is : h .maxrecs ≡ capacity kind (g .version) level (length b)
   -- the records claimed fit
   pub few : h .numrecs ≤ capacity kind (g .version) level (length b)
@@ -52,7 +53,7 @@ module _ (g : Geometry) (kind : TreeKind) (block level : ℕ) (b : List ℕ) whe
       let contents : AllHold (contentQuestions g kind level b) =
       hold-last (cond (eqb (g .version) 5) (identityQuestions g block b) []) (contentQuestions g kind level b) (all .1 .1 .1 .1) in
       let is : headerOf g kind level b ≡ h = found .1 in
-      let records : h .numrecs ≡ beOf (bytesAt b 6 2) = ap (λ (x : Header). x .numrecs) (sym is) in
+      let records : h .numrecs ≡ beOf (bytesAt b numrecsAt 2) = ap (λ (x : Header). x .numrecs) (sym is) in
       let fits : headerLen (g .version) ≤ length b = leb-true _ _ (all .1 .0) in
       let most : h .numrecs ≤ capacity kind (g .version) level (length b) = rw records (leb-true _ _ (contents .1 .0)) in
       record {
@@ -73,9 +74,9 @@ module _ (g : Geometry) (kind : TreeKind) (block level : ℕ) (b : List ℕ) whe
   pub accepted-small : (h : Header) → IsBytes b → checkBlock g kind block level b ≡ done h → h .numrecs < 2 ^ 16
   accepted-small h bytes e =
       let a = accepted h e in
-      let fits : 6 + 2 ≤ length b = omega (arith, a .long, header-least (g .version)) in
-      let lt : beOf (bytesAt b 6 2) < 256 ^ length (bytesAt b 6 2) = beOf-lt (bytesAt b 6 2) (isBytes-bytesAt b 6 2 bytes) in
-      rw (a .numrecs-is) (subst (λ (n : ℕ). beOf (bytesAt b 6 2) < 256 ^ n) (length-bytesAt b 6 2 fits) lt)
+      let fits : numrecsAt + 2 ≤ length b = omega (arith, a .long, header-least (g .version)) in
+      let lt : beOf (bytesAt b numrecsAt 2) < 256 ^ length (bytesAt b numrecsAt 2) = beOf-lt (bytesAt b numrecsAt 2) (isBytes-bytesAt b numrecsAt 2 bytes) in
+      rw (a .numrecs-is) (subst (λ (n : ℕ). beOf (bytesAt b numrecsAt 2) < 256 ^ n) (length-bytesAt b numrecsAt 2 fits) lt)
 
   -- where 1 and 2 hold, 3 to 10 are left
   pub from-three : geometryOk g ≡ true → headerLen (g .version) ≤ length b

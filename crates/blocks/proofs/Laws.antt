@@ -16,7 +16,8 @@ use lib.Seq.{drop-cons, getD-take, getD-drop}
 use Rattle.codec.specs.Bytes.{bytesAt}
 use Rattle.blocks.specs.Check.{same}
 use Rattle.blocks.specs.Geometry.{among, isVersion, isBlockSize, linearOf, addressOf, geometryOk}
-use Rattle.blocks.specs.Tree.{headerLen, magicOf, recordLen, keysLen, entryLen, placeLen, capacity}
+use Rattle.blocks.specs.Offsets.{v4HeaderLen, v5HeaderLen}
+use Rattle.blocks.specs.Tree.{headerLen, magicOf, recordLen, keysLen, ptrLen, entryLen, placeLen, capacity}
 use Rattle.blocks.specs.declared.geometry.Geometry.{Geometry}
 use Rattle.blocks.specs.declared.kind.TreeKind.{TreeKind}
 use Rattle.blocks.specs.declared.kind.TreeKind.the-variants.{Rmap, Refcount}
@@ -119,25 +120,25 @@ module _ (g : Geometry) (ok : geometryOk g ≡ true) where
 -- ---- lengths
 
 -- what holds of every kind: the one law here that goes by the kind
-pub record Bounded (kind : TreeKind) (version : ℕ) : Type 0 where
+pub record Bounded (kind : TreeKind) : Type 0 where
   pub record-least : 8 ≤ recordLen kind
   pub record-most : recordLen kind ≤ 40
   pub keys-least : 4 ≤ keysLen kind
   pub keys-most : keysLen kind ≤ 40
-  pub magic-small : magicOf kind version < 2 ^ 32
+  pub magic-small : (version : ℕ) → magicOf kind version < 2 ^ 32
 
-pub bounded : (kind : TreeKind) (version : ℕ) → Bounded kind version
-bounded Rmap version =
-    record { record-least = lit≤ tt; record-most = lit≤ tt; keys-least = lit≤ tt; keys-most = lit≤ tt; magic-small = lit≤ tt }
-bounded Refcount version =
-    record { record-least = lit≤ tt; record-most = lit≤ tt; keys-least = lit≤ tt; keys-most = lit≤ tt; magic-small = lit≤ tt }
+pub bounded : (kind : TreeKind) → Bounded kind
+bounded Rmap =
+    record { record-least = lit≤ tt; record-most = lit≤ tt; keys-least = lit≤ tt; keys-most = lit≤ tt; magic-small = λ version. lit≤ tt }
+bounded Refcount =
+    record { record-least = lit≤ tt; record-most = lit≤ tt; keys-least = lit≤ tt; keys-most = lit≤ tt; magic-small = λ version. lit≤ tt }
 
 -- a place of a block has 8 to 44 bytes
 place-within : (kind : TreeKind) (level : ℕ) → (8 ≤ placeLen kind level) × (placeLen kind level ≤ 44)
 place-within kind level = go (eqb level 0)
   where
-    of : Bounded kind 5
-    of = bounded kind 5
+    of : Bounded kind
+    of = bounded kind
 
     go : (t : Bool) → (8 ≤ cond t (recordLen kind) (entryLen kind)) × (cond t (recordLen kind) (entryLen kind) ≤ 44)
     go true = (of .record-least, omega (arith, of .record-most))
@@ -153,27 +154,27 @@ place-most kind level = place-within kind level .1
 pub place-above : (kind : TreeKind) (level : ℕ) → 0 < level → placeLen kind level ≡ entryLen kind
 place-above kind level h = rw (ne-eqb level 0 (λ e. omega arith))
 
-pub header-least : (version : ℕ) → 16 ≤ headerLen version
+pub header-least : (version : ℕ) → v4HeaderLen ≤ headerLen version
 unfolding headerLen
 header-least version = go (eqb version 5)
   where
-    go : (t : Bool) → 16 ≤ cond t 56 16
+    go : (t : Bool) → v4HeaderLen ≤ cond t v5HeaderLen v4HeaderLen
     go true = lit≤ tt
     go false = lit≤ tt
 
-pub header-most : (version : ℕ) → headerLen version ≤ 56
+pub header-most : (version : ℕ) → headerLen version ≤ v5HeaderLen
 unfolding headerLen
 header-most version = go (eqb version 5)
   where
-    go : (t : Bool) → cond t 56 16 ≤ 56
+    go : (t : Bool) → cond t v5HeaderLen v4HeaderLen ≤ v5HeaderLen
     go true = lit≤ tt
     go false = lit≤ tt
 
-pub header-five : (version : ℕ) → version ≡ 5 → headerLen version ≡ 56
+pub header-five : (version : ℕ) → version ≡ 5 → headerLen version ≡ v5HeaderLen
 unfolding headerLen
 header-five version e = rw (eq-eqb version 5 e)
 
-pub header-four : (version : ℕ) → eqb version 5 ≡ false → headerLen version ≡ 16
+pub header-four : (version : ℕ) → eqb version 5 ≡ false → headerLen version ≡ v4HeaderLen
 unfolding headerLen
 header-four version e = rw e
 
@@ -190,11 +191,11 @@ module _ (kind : TreeKind) (version level len : ℕ) where
 
   -- in a node the pointers stand after room for the capacity's keys
   pub pointers-fit : (n : ℕ) → 0 < level → headerLen version ≤ len → n ≤ capacity kind version level len
-      → headerLen version + capacity kind version level len * keysLen kind + n * 4 ≤ len
+      → headerLen version + capacity kind version level len * keysLen kind + n * ptrLen ≤ len
   pointers-fit n above h c =
       let room : ℕ = capacity kind version level len in
       let all : headerLen version + room * placeLen kind level ≤ len = places-fit room h (le-refl room) in
-      let parts : room * placeLen kind level ≡ room * keysLen kind + room * 4 = ap (λ (x : ℕ). room * x) (place-above kind level above) ∙ mul-add room (keysLen kind) 4 in
+      let parts : room * placeLen kind level ≡ room * keysLen kind + room * ptrLen = ap (λ (x : ℕ). room * x) (place-above kind level above) ∙ mul-add room (keysLen kind) ptrLen in
       omega arith
 
   -- a place for each 44 bytes, and no more than one for each 8

@@ -19,7 +19,7 @@ use Rattle.blocks.specs.Refusal.{refusalNumber, refusalValues, checkedOu
 use Rattle.blocks.specs.Check.{blockQuestions, checkBlock}
 
 -- the refusal of a number and its values
-abbrev refusalOf : ℕ → Values → BlockRefusal
+abbrev pub refusalOf : ℕ → Values → BlockRefusal
 refusalOf n none = cond (eqb n 1) BadGeometry (cond (eqb n 2) Short (cond (eqb n 3) NoTree Uuid))
 refusalOf n (two e f) =
     BadField (cond (eqb n 4) (Magic e f) (cond (eqb n 5) (Crc e f) (cond (eqb n 7) (Owner e f) (cond (eqb n 8) (Address e f) (cond (eqb n 9) (Level e f) (Records e f))))))

@@ -12,14 +12,15 @@ use lib.Seq.{take-at}
 use Rattle.codec.specs.Bytes.{IsBytes, bytesAt, withBytes, beOf, beBytes, leOf, leBytes}
 use Rattle.codec.specs.Crc.{crc32cOf}
 use Rattle.codec.specs.Question.{done}
-use Rattle.codec.proofs.Parts.{length-withBytes}
+use Rattle.codec.proofs.Parts.{length-withBytes, drop-after}
 use Rattle.codec.proofs.Numbers.{beOf-beBytes-lt, length-leBytes}
 use Rattle.codec.proofs.Fields.{le-read-back}
 use Rattle.codec.proofs.FieldLists.{isBytes-append, isBytes-beBytes}
-use Rattle.codec.proofs.Overwrites.{isBytes-leBytes, isBytes-withBytes, bytesAt-past, drop-withBytes, withBytes-again}
+use Rattle.codec.proofs.Overwrites.{isBytes-leBytes, isBytes-withBytes, bytesAt-past, withBytes-again}
 use Rattle.codec.proofs.CrcRange.{crc32cOf-lt}
 use Rattle.blocks.specs.declared.geometry.Geometry.{Geometry}
 use Rattle.blocks.specs.declared.kind.TreeKind.{TreeKind}
+use Rattle.blocks.specs.Offsets.{magicAt, levelAt, numrecsAt, blknoAt, uuidAt, ownerAt, crcAt, v5HeaderLen}
 use Rattle.blocks.specs.Geometry.{geometryOk, linearOf, addressOf, Fits}
 use Rattle.blocks.specs.Tree.{headerLen, hasTree, magicOf, capacity}
 use Rattle.blocks.specs.Check.{blockCrc, headerSays, checkBlock}
@@ -33,15 +34,15 @@ module _ (kind : TreeKind) (version level numrecs left right : ℕ) (t : List �
   abbrev plain : List ℕ
   plain = plainHead kind version level numrecs left right
 
-  magic-read : beOf (bytesAt (plain ++ t) 0 4) ≡ magicOf kind version
+  magic-read : beOf (bytesAt (plain ++ t) magicAt 4) ≡ magicOf kind version
   unfolding bytesAt beBytes
-  magic-read = beOf-beBytes-lt 4 (magicOf kind version) (bounded kind version .magic-small)
+  magic-read = beOf-beBytes-lt 4 (magicOf kind version) (bounded kind .magic-small version)
 
-  level-read : level < 2 ^ 16 → beOf (bytesAt (plain ++ t) 4 2) ≡ level
+  level-read : level < 2 ^ 16 → beOf (bytesAt (plain ++ t) levelAt 2) ≡ level
   unfolding bytesAt beBytes
   level-read h = beOf-beBytes-lt 2 level h
 
-  records-read : numrecs < 2 ^ 16 → beOf (bytesAt (plain ++ t) 6 2) ≡ numrecs
+  records-read : numrecs < 2 ^ 16 → beOf (bytesAt (plain ++ t) numrecsAt 2) ≡ numrecs
   unfolding bytesAt beBytes
   records-read h = beOf-beBytes-lt 2 numrecs h
 
@@ -49,42 +50,42 @@ module _ (g : Geometry) (kind : TreeKind) (block level numrecs left right : ℕ)
   abbrev p : List ℕ
   p = plainHead kind (g .version) level numrecs left right
 
-  address-read : addressOf g (linearOf g block) < 2 ^ 64 → beOf (bytesAt (p ++ identityHead g block ++ t) 16 8) ≡ addressOf g (linearOf g block)
+  address-read : addressOf g (linearOf g block) < 2 ^ 64 → beOf (bytesAt (p ++ identityHead g block ++ t) blknoAt 8) ≡ addressOf g (linearOf g block)
   unfolding bytesAt beBytes
   address-read h = beOf-beBytes-lt 8 (addressOf g (linearOf g block)) h
 
-  uuid-read : bytesAt (p ++ identityHead g block ++ t) 32 16 ≡ g .«meta_uuid»
+  uuid-read : bytesAt (p ++ identityHead g block ++ t) uuidAt 16 ≡ g .«meta_uuid»
   unfolding bytesAt beBytes
   uuid-read =
       ap (take 16) (append-assoc (g .«meta_uuid») (beBytes 4 (g .agno)) t) ∙ take-at (g .«meta_uuid») (beBytes 4 (g .agno) ++ t) 16 (fits .uuid-long)
 
-  owner-read : beOf (bytesAt (p ++ identityHead g block ++ t) 48 4) ≡ g .agno
+  owner-read : beOf (bytesAt (p ++ identityHead g block ++ t) ownerAt 4) ≡ g .agno
   unfolding beBytes
   owner-read =
       let x : List ℕ = beBytes 8 (addressOf g (linearOf g block)) ++ beBytes 8 0 ++ g .«meta_uuid» in
       let q : List ℕ = p ++ x in
-      let e : length q ≡ 48 = simp length-append (omega (arith, fits .uuid-long)) in
-      ap (λ (l : List ℕ). beOf (bytesAt l 48 4)) (ap (λ (l : List ℕ). l ++ t) (sym (append-assoc p x (beBytes 4 (g .agno)))) ∙ append-assoc q (beBytes 4 (g .agno)) t)
-      ∙ ap beOf (bytesAt-past q (beBytes 4 (g .agno) ++ t) 48 4 e)
+      let e : length q ≡ ownerAt = simp length-append (omega (arith, fits .uuid-long)) in
+      ap (λ (l : List ℕ). beOf (bytesAt l ownerAt 4)) (ap (λ (l : List ℕ). l ++ t) (sym (append-assoc p x (beBytes 4 (g .agno)))) ∙ append-assoc q (beBytes 4 (g .agno)) t)
+      ∙ ap beOf (bytesAt-past q (beBytes 4 (g .agno) ++ t) ownerAt 4 e)
       ∙ beOf-beBytes-lt 4 (g .agno) (fits .agno-fits)
 
--- ---- a block with its check at 52
+-- ---- a block with its check
 
-module _ (h : List ℕ) (long : 56 ≤ length h) where
-  check-fits : 52 + length (leBytes 4 (blockCrc h)) ≤ length h
+module _ (h : List ℕ) (long : v5HeaderLen ≤ length h) where
+  check-fits : crcAt + length (leBytes 4 (blockCrc h)) ≤ length h
   check-fits = omega (arith, length-leBytes 4 (blockCrc h))
 
   withCrc-length : length (withCrc h) ≡ length h
-  withCrc-length = length-withBytes h 52 (leBytes 4 (blockCrc h)) check-fits
+  withCrc-length = length-withBytes h crcAt (leBytes 4 (blockCrc h)) check-fits
 
   -- the check's own field is no part of the check
   withCrc-same : blockCrc (withCrc h) ≡ blockCrc h
-  withCrc-same = ap crc32cOf (withBytes-again h 52 (leBytes 4 (blockCrc h)) (0 ∷ 0 ∷ 0 ∷ 0 ∷ []) check-fits (length-leBytes 4 (blockCrc h)))
+  withCrc-same = ap crc32cOf (withBytes-again h crcAt (leBytes 4 (blockCrc h)) (0 ∷ 0 ∷ 0 ∷ 0 ∷ []) check-fits (length-leBytes 4 (blockCrc h)))
 
-  crc-read : IsBytes h → leOf (bytesAt (withCrc h) 52 4) ≡ blockCrc (withCrc h)
+  crc-read : IsBytes h → leOf (bytesAt (withCrc h) crcAt 4) ≡ blockCrc (withCrc h)
   unfolding beBytes
   crc-read bytes =
-      le-read-back h 52 4 (blockCrc h) long (crc32cOf-lt (withBytes h 52 (0 ∷ 0 ∷ 0 ∷ 0 ∷ [])) (isBytes-withBytes h 52 (0 ∷ 0 ∷ 0 ∷ 0 ∷ []) bytes (isBytes-beBytes 4 0)))
+      le-read-back h crcAt 4 (blockCrc h) long (crc32cOf-lt (withBytes h crcAt (0 ∷ 0 ∷ 0 ∷ 0 ∷ [])) (isBytes-withBytes h crcAt (0 ∷ 0 ∷ 0 ∷ 0 ∷ []) bytes (isBytes-beBytes 4 0)))
       ∙ sym withCrc-same
 
 -- ---- a block passes where each of its fields is as expected
@@ -93,17 +94,17 @@ module _
     (g : Geometry) (kind : TreeKind) (block level numrecs len : ℕ) (s : List ℕ)
     (ok : geometryOk g ≡ true) (tree : hasTree kind (g .version) ≡ true)
     (size : length s ≡ len) (long : headerLen (g .version) ≤ len) (room : numrecs ≤ capacity kind (g .version) level len)
-    (magic : beOf (bytesAt s 0 4) ≡ magicOf kind (g .version)) (at : beOf (bytesAt s 4 2) ≡ level) (records : beOf (bytesAt s 6 2) ≡ numrecs)
+    (magic : beOf (bytesAt s magicAt 4) ≡ magicOf kind (g .version)) (at : beOf (bytesAt s levelAt 2) ≡ level) (records : beOf (bytesAt s numrecsAt 2) ≡ numrecs)
   where
     passes-4 : eqb (g .version) 5 ≡ false → checkBlock g kind block level s ≡ done (headerSays g kind level numrecs len)
     unfolding checkBlock
     passes-4 v = rw (size, v, ok, le-leb _ _ long, tree, eq-eqb _ _ magic, eq-eqb _ _ at, records, le-leb _ _ room)
 
     passes-5 : eqb (g .version) 5 ≡ true
-        → leOf (bytesAt s 52 4) ≡ blockCrc s
-        → bytesAt s 32 16 ≡ g .«meta_uuid»
-        → beOf (bytesAt s 48 4) ≡ g .agno
-        → beOf (bytesAt s 16 8) ≡ addressOf g (linearOf g block)
+        → leOf (bytesAt s crcAt 4) ≡ blockCrc s
+        → bytesAt s uuidAt 16 ≡ g .«meta_uuid»
+        → beOf (bytesAt s ownerAt 4) ≡ g .agno
+        → beOf (bytesAt s blknoAt 8) ≡ addressOf g (linearOf g block)
         → checkBlock g kind block level s ≡ done (headerSays g kind level numrecs len)
     unfolding checkBlock
     passes-5 v crc uuid owner address =
@@ -113,7 +114,7 @@ module _
 
 module _
     (g : Geometry) (kind : TreeKind) (block level numrecs left right : ℕ) (b : List ℕ)
-    (fits : Fits g) (long : headerLen (g .version) ≤ length b)
+    (uuid : length (g .«meta_uuid») ≡ 16) (long : headerLen (g .version) ≤ length b)
   where
     abbrev front : List ℕ
     front = plainHead kind (g .version) level numrecs left right
@@ -127,8 +128,8 @@ module _
     front-fits : 0 + length front ≤ length b
     front-fits = omega (arith, header-least (g .version), plain-length kind (g .version) level numrecs left right)
 
-    whole-length : length whole ≡ 52
-    whole-length = length-append front (identityHead g block) ∙ ap₂ _+_ (plain-length kind (g .version) level numrecs left right) (identity-length g block (fits .uuid-long))
+    whole-length : length whole ≡ crcAt
+    whole-length = length-append front (identityHead g block) ∙ ap₂ _+_ (plain-length kind (g .version) level numrecs left right) (identity-length g block uuid)
 
     -- by the version: what holds of both forms holds of the stamped block
     by-version : (P : List ℕ → Type 0)
@@ -143,7 +144,7 @@ module _
         go false v = four v
 
     module _ (v : eqb (g .version) 5 ≡ true) where
-      long-5 : 56 ≤ length b
+      long-5 : v5HeaderLen ≤ length b
       long-5 = omega (arith, header-five (g .version) (eqb-true _ _ v))
 
       whole-fits : 0 + length whole ≤ length b
@@ -152,7 +153,7 @@ module _
       length-5 : length (withBytes b 0 whole) ≡ length b
       length-5 = length-withBytes b 0 whole whole-fits
 
-      head-long : 56 ≤ length (withBytes b 0 whole)
+      head-long : v5HeaderLen ≤ length (withBytes b 0 whole)
       head-long = omega (arith, length-5, long-5)
 
     pub stamped-length : length made ≡ length b
@@ -162,15 +163,15 @@ module _
         (λ v. length-withBytes b 0 front front-fits)
 
     -- what stands after the header is as it was
-    pub stamped-body : (n : ℕ) → headerLen (g .version) ≤ n → drop n made ≡ drop n b
-    stamped-body n h =
+    body-kept : (n : ℕ) → headerLen (g .version) ≤ n → drop n made ≡ drop n b
+    body-kept n h =
         by-version (λ (l : List ℕ). drop n l ≡ drop n b)
         (λ v.
-        let far : 56 ≤ n = omega (arith, header-five (g .version) (eqb-true _ _ v)) in
+        let far : v5HeaderLen ≤ n = omega (arith, header-five (g .version) (eqb-true _ _ v)) in
         let c : List ℕ = leBytes 4 (blockCrc (withBytes b 0 whole)) in
-        drop-withBytes (withBytes b 0 whole) 52 c n (check-fits (withBytes b 0 whole) (head-long v)) (omega (arith, length-leBytes 4 (blockCrc (withBytes b 0 whole))))
-        ∙ drop-withBytes b 0 whole n (whole-fits v) (omega (arith, whole-length)))
-        (λ v. drop-withBytes b 0 front n front-fits (omega (arith, header-least (g .version), plain-length kind (g .version) level numrecs left right)))
+        drop-after (withBytes b 0 whole) crcAt c (check-fits (withBytes b 0 whole) (head-long v)) n (omega (arith, length-leBytes 4 (blockCrc (withBytes b 0 whole))))
+        ∙ drop-after b 0 whole (whole-fits v) n (omega (arith, whole-length)))
+        (λ v. drop-after b 0 front front-fits n (omega (arith, header-least (g .version), plain-length kind (g .version) level numrecs left right)))
 
     front-bytes : IsBytes front
     front-bytes =
@@ -180,61 +181,84 @@ module _
         (isBytes-beBytes 2 numrecs))
         (isBytes-append (beBytes 4 left) (beBytes 4 right) (isBytes-beBytes 4 left) (isBytes-beBytes 4 right))
 
-    identity-bytes : IsBytes (identityHead g block)
-    identity-bytes =
-        let address : ℕ = addressOf g (linearOf g block) in
-        isBytes-append (beBytes 8 address ++ beBytes 8 0 ++ g .«meta_uuid») (beBytes 4 (g .agno))
-        (isBytes-append (beBytes 8 address ++ beBytes 8 0) (g .«meta_uuid»)
-        (isBytes-append (beBytes 8 address) (beBytes 8 0) (isBytes-beBytes 8 address) (isBytes-beBytes 8 0))
-        (fits .uuid-bytes))
-        (isBytes-beBytes 4 (g .agno))
+    module _ (fits : Fits g) where
+      identity-bytes : IsBytes (identityHead g block)
+      identity-bytes =
+          let address : ℕ = addressOf g (linearOf g block) in
+          isBytes-append (beBytes 8 address ++ beBytes 8 0 ++ g .«meta_uuid») (beBytes 4 (g .agno))
+          (isBytes-append (beBytes 8 address ++ beBytes 8 0) (g .«meta_uuid»)
+          (isBytes-append (beBytes 8 address) (beBytes 8 0) (isBytes-beBytes 8 address) (isBytes-beBytes 8 0))
+          (fits .uuid-bytes))
+          (isBytes-beBytes 4 (g .agno))
+
+      module _ (bytes : IsBytes b) where
+        head-bytes : IsBytes (withBytes b 0 whole)
+        head-bytes = isBytes-withBytes b 0 whole bytes (isBytes-append front (identityHead g block) front-bytes identity-bytes)
+
+        bytes-kept : IsBytes made
+        bytes-kept =
+            by-version IsBytes
+            (λ v. isBytes-withBytes (withBytes b 0 whole) crcAt (leBytes 4 (blockCrc (withBytes b 0 whole))) head-bytes (isBytes-leBytes 4 (blockCrc (withBytes b 0 whole))))
+            (λ v. isBytes-withBytes b 0 front bytes front-bytes)
+
+        -- a stamped block passes the check, with the records that it was stamped with
+        module _
+            (ok : geometryOk g ≡ true) (tree : hasTree kind (g .version) ≡ true)
+            (number : block < 2 ^ 32) (level-fits : level < 2 ^ 16) (records-fit : numrecs < 2 ^ 16)
+            (room : numrecs ≤ capacity kind (g .version) level (length b))
+          where
+            on-4 : eqb (g .version) 5 ≡ false → checkBlock g kind block level (withBytes b 0 front) ≡ done (headerSays g kind level numrecs (length b))
+            unfolding withBytes
+            on-4 v =
+                let d : List ℕ = drop (0 + length front) b in
+                passes-4 g kind block level numrecs (length b) (front ++ d) ok tree (length-withBytes b 0 front front-fits) long room
+                (magic-read kind (g .version) level numrecs left right d)
+                (level-read kind (g .version) level numrecs left right d level-fits)
+                (records-read kind (g .version) level numrecs left right d records-fit)
+                v
+
+            on-5 : eqb (g .version) 5 ≡ true → checkBlock g kind block level (withCrc (withBytes b 0 whole)) ≡ done (headerSays g kind level numrecs (length b))
+            unfolding withBytes
+            on-5 v =
+                let h : List ℕ = withBytes b 0 whole in
+                let i : List ℕ = identityHead g block in
+                let c : List ℕ = leBytes 4 (blockCrc h) in
+                let t : List ℕ = c ++ drop (crcAt + length c) h in
+                let is : withCrc h ≡ whole ++ t =
+                append-assoc (take crcAt h) c (drop (crcAt + length c) h)
+                ∙ ap (λ (l : List ℕ). l ++ t) (take-at whole (drop (0 + length whole) b) crcAt whole-length) in
+                let is-plain : withCrc h ≡ front ++ (i ++ t) = is ∙ append-assoc front i t in
+                passes-5 g kind block level numrecs (length b) (withCrc h) ok tree (withCrc-length h (head-long v) ∙ length-5 v) long room
+                (ap (λ (l : List ℕ). beOf (bytesAt l magicAt 4)) is-plain ∙ magic-read kind (g .version) level numrecs left right (i ++ t))
+                (ap (λ (l : List ℕ). beOf (bytesAt l levelAt 2)) is-plain ∙ level-read kind (g .version) level numrecs left right (i ++ t) level-fits)
+                (ap (λ (l : List ℕ). beOf (bytesAt l numrecsAt 2)) is-plain ∙ records-read kind (g .version) level numrecs left right (i ++ t) records-fit)
+                v
+                (crc-read h (head-long v) head-bytes)
+                (ap (λ (l : List ℕ). bytesAt l uuidAt 16) is ∙ uuid-read g kind block level numrecs left right t fits)
+                (ap (λ (l : List ℕ). beOf (bytesAt l ownerAt 4)) is ∙ owner-read g kind block level numrecs left right t fits)
+                (ap (λ (l : List ℕ). beOf (bytesAt l blknoAt 8)) is ∙ address-read g kind block level numrecs left right t fits (address-small g ok block number))
+
+            passes : checkBlock g kind block level made ≡ done (headerSays g kind level numrecs (length b))
+            passes = by-version (λ (l : List ℕ). checkBlock g kind block level l ≡ done (headerSays g kind level numrecs (length b))) on-5 on-4
+
+-- ---- the same, of a geometry in memory
+
+module _
+    (g : Geometry) (kind : TreeKind) (block level numrecs left right : ℕ) (b : List ℕ)
+    (fits : Fits g) (long : headerLen (g .version) ≤ length b)
+  where
+    pub stamped-body : (n : ℕ) → headerLen (g .version) ≤ n → drop n (stamped g kind block level numrecs left right b) ≡ drop n b
+    stamped-body = body-kept g kind block level numrecs left right b (fits .uuid-long) long
 
     module _ (bytes : IsBytes b) where
-      head-bytes : IsBytes (withBytes b 0 whole)
-      head-bytes = isBytes-withBytes b 0 whole bytes (isBytes-append front (identityHead g block) front-bytes identity-bytes)
+      pub stamped-bytes : IsBytes (stamped g kind block level numrecs left right b)
+      stamped-bytes = bytes-kept g kind block level numrecs left right b (fits .uuid-long) long fits bytes
 
-      pub stamped-bytes : IsBytes made
-      stamped-bytes =
-          by-version IsBytes
-          (λ v. isBytes-withBytes (withBytes b 0 whole) 52 (leBytes 4 (blockCrc (withBytes b 0 whole))) head-bytes (isBytes-leBytes 4 (blockCrc (withBytes b 0 whole))))
-          (λ v. isBytes-withBytes b 0 front bytes front-bytes)
-
-      -- a stamped block passes the check, with the records that it was stamped with
       module _
           (ok : geometryOk g ≡ true) (tree : hasTree kind (g .version) ≡ true)
           (number : block < 2 ^ 32) (level-fits : level < 2 ^ 16) (records-fit : numrecs < 2 ^ 16)
           (room : numrecs ≤ capacity kind (g .version) level (length b))
         where
-          on-4 : eqb (g .version) 5 ≡ false → checkBlock g kind block level (withBytes b 0 front) ≡ done (headerSays g kind level numrecs (length b))
-          unfolding withBytes
-          on-4 v =
-              let d : List ℕ = drop (0 + length front) b in
-              passes-4 g kind block level numrecs (length b) (front ++ d) ok tree (length-withBytes b 0 front front-fits) long room
-              (magic-read kind (g .version) level numrecs left right d)
-              (level-read kind (g .version) level numrecs left right d level-fits)
-              (records-read kind (g .version) level numrecs left right d records-fit)
-              v
-
-          on-5 : eqb (g .version) 5 ≡ true → checkBlock g kind block level (withCrc (withBytes b 0 whole)) ≡ done (headerSays g kind level numrecs (length b))
-          unfolding withBytes
-          on-5 v =
-              let h : List ℕ = withBytes b 0 whole in
-              let i : List ℕ = identityHead g block in
-              let c : List ℕ = leBytes 4 (blockCrc h) in
-              let t : List ℕ = c ++ drop (52 + length c) h in
-              let is : withCrc h ≡ whole ++ t =
-              append-assoc (take 52 h) c (drop (52 + length c) h)
-              ∙ ap (λ (l : List ℕ). l ++ t) (take-at whole (drop (0 + length whole) b) 52 whole-length) in
-              let is-plain : withCrc h ≡ front ++ (i ++ t) = is ∙ append-assoc front i t in
-              passes-5 g kind block level numrecs (length b) (withCrc h) ok tree (withCrc-length h (head-long v) ∙ length-5 v) long room
-              (ap (λ (l : List ℕ). beOf (bytesAt l 0 4)) is-plain ∙ magic-read kind (g .version) level numrecs left right (i ++ t))
-              (ap (λ (l : List ℕ). beOf (bytesAt l 4 2)) is-plain ∙ level-read kind (g .version) level numrecs left right (i ++ t) level-fits)
-              (ap (λ (l : List ℕ). beOf (bytesAt l 6 2)) is-plain ∙ records-read kind (g .version) level numrecs left right (i ++ t) records-fit)
-              v
-              (crc-read h (head-long v) head-bytes)
-              (ap (λ (l : List ℕ). bytesAt l 32 16) is ∙ uuid-read g kind block level numrecs left right t fits)
-              (ap (λ (l : List ℕ). beOf (bytesAt l 48 4)) is ∙ owner-read g kind block level numrecs left right t fits)
-              (ap (λ (l : List ℕ). beOf (bytesAt l 16 8)) is ∙ address-read g kind block level numrecs left right t fits (address-small g ok block number))
-
-          pub stamped-passes : checkBlock g kind block level made ≡ done (headerSays g kind level numrecs (length b))
-          stamped-passes = by-version (λ (l : List ℕ). checkBlock g kind block level l ≡ done (headerSays g kind level numrecs (length b))) on-5 on-4
+          pub stamped-passes : checkBlock g kind block level (stamped g kind block level numrecs left right b) ≡ done (headerSays g kind level numrecs (length b))
+          stamped-passes =
+              passes g kind block level numrecs left right b (fits .uuid-long) long fits bytes ok tree number level-fits records-fit room

@@ -11,6 +11,7 @@ use Rattle.codec.specs.Question.{Outcome, done, Question, ask, ask-equal, ask-m
 use Rattle.blocks.specs.declared.geometry.Geometry.{Geometry}
 use Rattle.blocks.specs.declared.kind.TreeKind.{TreeKind}
 use Rattle.blocks.specs.declared.check.Header.{Header}
+use Rattle.blocks.specs.Offsets.{magicAt, levelAt, numrecsAt, blknoAt, uuidAt, ownerAt, crcAt}
 use Rattle.blocks.specs.Geometry.{geometryOk, linearOf, addressOf}
 use Rattle.blocks.specs.Tree.{headerLen, hasTree, magicOf, capacity}
 
@@ -23,29 +24,29 @@ same (x ∷ xs) (y ∷ ys) = cond (eqb x y) (same xs ys) false
 
 -- the check of a block, over the whole of it with the check's own field as zeros
 abbrev pub blockCrc : List ℕ → ℕ
-blockCrc b = crc32cOf (withBytes b 52 (0 ∷ 0 ∷ 0 ∷ 0 ∷ []))
+blockCrc b = crc32cOf (withBytes b crcAt (0 ∷ 0 ∷ 0 ∷ 0 ∷ []))
 
 -- 5 to 8, on version 5 only: the check, the volume, the group, the address
 abbrev pub identityQuestions : Geometry → ℕ → List ℕ → List Question
 identityQuestions g block b =
-    ask-equal 5 (blockCrc b) (leOf (bytesAt b 52 4))
-    ∷ ask 6 (same (bytesAt b 32 16) (g .«meta_uuid»))
-    ∷ ask-equal 7 (g .agno) (beOf (bytesAt b 48 4))
-    ∷ ask-equal 8 (addressOf g (linearOf g block)) (beOf (bytesAt b 16 8))
+    ask-equal 5 (blockCrc b) (leOf (bytesAt b crcAt 4))
+    ∷ ask 6 (same (bytesAt b uuidAt 16) (g .«meta_uuid»))
+    ∷ ask-equal 7 (g .agno) (beOf (bytesAt b ownerAt 4))
+    ∷ ask-equal 8 (addressOf g (linearOf g block)) (beOf (bytesAt b blknoAt 8))
     ∷ []
 
 -- 9 and 10: the level, and that the records claimed fit
 abbrev pub contentQuestions : Geometry → TreeKind → ℕ → List ℕ → List Question
 contentQuestions g kind level b =
-    ask-equal 9 level (beOf (bytesAt b 4 2))
-    ∷ ask-most 10 (capacity kind (g .version) level (length b)) (beOf (bytesAt b 6 2))
+    ask-equal 9 level (beOf (bytesAt b levelAt 2))
+    ∷ ask-most 10 (capacity kind (g .version) level (length b)) (beOf (bytesAt b numrecsAt 2))
     ∷ []
 
 -- 3 to 10: what is asked of the block itself, once the geometry is good and the header is there
 abbrev pub treeQuestions : Geometry → TreeKind → ℕ → ℕ → List ℕ → List Question
 treeQuestions g kind block level b =
     ask 3 (hasTree kind (g .version))
-    ∷ ask-equal 4 (magicOf kind (g .version)) (beOf (bytesAt b 0 4))
+    ∷ ask-equal 4 (magicOf kind (g .version)) (beOf (bytesAt b magicAt 4))
     ∷ (cond (eqb (g .version) 5) (identityQuestions g block b) [] ++ contentQuestions g kind level b)
 
 abbrev pub blockQuestions : Geometry → TreeKind → ℕ → ℕ → List ℕ → List Question
@@ -59,14 +60,7 @@ headerSays g kind level numrecs len =
 
 -- what a block says of itself, once checked
 abbrev pub headerOf : Geometry → TreeKind → ℕ → List ℕ → Header
-headerOf g kind level b = headerSays g kind level (beOf (bytesAt b 6 2)) (length b)
-
--- what 9 and 10 come to, and what 5 to 10 do
-abbrev pub contentOutcome : Geometry → TreeKind → ℕ → List ℕ → Outcome Header
-contentOutcome g kind level b = answer (contentQuestions g kind level b) (done (headerOf g kind level b))
-
-abbrev pub identityOutcome : Geometry → TreeKind → ℕ → ℕ → List ℕ → Outcome Header
-identityOutcome g kind block level b = answer (identityQuestions g block b ++ contentQuestions g kind level b) (done (headerOf g kind level b))
+headerOf g kind level b = headerSays g kind level (beOf (bytesAt b numrecsAt 2)) (length b)
 
 -- what 1 to 10 come to
 unfoldable pub checkBlock : Geometry → TreeKind → ℕ → ℕ → List ℕ → Outcome Header

@@ -21,6 +21,10 @@ isVersion n = among n (4 ∷ 5 ∷ [])
 unfoldable pub isBlockSize : ℕ → Bool
 isBlockSize n = among n (2 ^ 9 ∷ 2 ^ 10 ∷ 2 ^ 11 ∷ 2 ^ 12 ∷ 2 ^ 13 ∷ 2 ^ 14 ∷ 2 ^ 15 ∷ 2 ^ 16 ∷ [])
 
+-- the block number that stands for no block: a sibling that is not there
+abbrev pub nullAgBlock : ℕ
+nullAgBlock = 4294967295
+
 -- the linear block number of a block of the group
 abbrev pub linearOf : Geometry → ℕ → ℕ
 linearOf g block = g .agno * g .agblocks + block

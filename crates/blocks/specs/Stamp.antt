@@ -7,6 +7,7 @@ use lib.Dec.{eqb}
 use Rattle.codec.specs.Bytes.{withBytes, beBytes, leBytes}
 use Rattle.blocks.specs.declared.geometry.Geometry.{Geometry}
 use Rattle.blocks.specs.declared.kind.TreeKind.{TreeKind}
+use Rattle.blocks.specs.Offsets.{crcAt}
 use Rattle.blocks.specs.Geometry.{linearOf, addressOf}
 use Rattle.blocks.specs.Tree.{magicOf}
 use Rattle.blocks.specs.Check.{blockCrc}
@@ -24,9 +25,9 @@ plainHead kind version level numrecs left right =
 abbrev pub identityHead : Geometry → ℕ → List ℕ
 identityHead g block = beBytes 8 (addressOf g (linearOf g block)) ++ beBytes 8 0 ++ g .«meta_uuid» ++ beBytes 4 (g .agno)
 
--- the check, at 52
+-- the check put in
 abbrev pub withCrc : List ℕ → List ℕ
-withCrc b = withBytes b 52 (leBytes 4 (blockCrc b))
+withCrc b = withBytes b crcAt (leBytes 4 (blockCrc b))
 
 unfoldable pub stamped : Geometry → TreeKind → ℕ → ℕ → ℕ → ℕ → ℕ → List ℕ → List ℕ
 stamped g kind block level numrecs left right b =

@@ -3,11 +3,13 @@
 use Prim.Native.Nat.{ℕ, _+_, _-_, _/_}
 use mathlib.Core.Bool.{Bool, cond}
 use lib.Dec.{eqb}
+use Rattle.codec.specs.Records.{rmaps, refcounts}
 use Rattle.blocks.specs.declared.kind.TreeKind.{TreeKind}
 use Rattle.blocks.specs.declared.kind.TreeKind.the-variants.{Rmap, Refcount}
+use Rattle.blocks.specs.Offsets.{v4HeaderLen, v5HeaderLen}
 
 unfoldable pub headerLen : ℕ → ℕ
-headerLen version = cond (eqb version 5) 56 16
+headerLen version = cond (eqb version 5) v5HeaderLen v4HeaderLen
 
 -- has a version a tree of the kind
 abbrev pub hasTree : TreeKind → ℕ → Bool
@@ -19,17 +21,25 @@ magicOf Rmap version = 0x524D4233
 magicOf Refcount version = 0x52334643
 
 abbrev pub recordLen : TreeKind → ℕ
-recordLen Rmap = 24
-recordLen Refcount = 12
+recordLen Rmap = rmaps .size
+recordLen Refcount = refcounts .size
+
+-- a key of the reverse map: start, owner and offset
+abbrev pub rmapKeyLen : ℕ
+rmapKeyLen = 20
 
 -- the keys of one entry of a node: low and high in the reverse map, one in the counts
 abbrev pub keysLen : TreeKind → ℕ
-keysLen Rmap = 20 + 20
+keysLen Rmap = rmapKeyLen + rmapKeyLen
 keysLen Refcount = 4
+
+-- a pointer of a node: a block number of the group
+abbrev pub ptrLen : ℕ
+ptrLen = 4
 
 -- an entry of a node: its keys and a pointer
 abbrev pub entryLen : TreeKind → ℕ
-entryLen kind = keysLen kind + 4
+entryLen kind = keysLen kind + ptrLen
 
 -- what one place of a block at a level takes: a record in a leaf, an entry in a node
 abbrev pub placeLen : TreeKind → ℕ → ℕ

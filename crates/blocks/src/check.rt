@@ -5,19 +5,24 @@ ghost use Prim.Native.Nat.{_≤_};
 ghost use lib.ListN.{length};
 ghost use Rattle.blocks.specs.Geometry.{geometryOk};
 ghost use Rattle.blocks.specs.Tree.{headerLen};
-ghost use Rattle.blocks.specs.Refusal.{checkedOutcome};
-ghost use Rattle.blocks.specs.Check.{contentOutcome, identityOutcome, checkBlock};
+ghost use Rattle.blocks.specs.Offsets.{v5HeaderLen};
+ghost use Rattle.blocks.specs.Refusal.{fieldNumber, fieldValues, refusalNumber, refusalValues, checkedOutcome};
+ghost use Rattle.blocks.specs.Check.{checkBlock};
+ghost use Rattle.blocks.specs.inner.CheckParts.{contentOutcome, identityOutcome};
+ghost use Rattle.codec.specs.Told.{Tells};
 use crate::geometry::AgBlock;
 use crate::geometry::Geometry;
 use crate::kind::TreeKind;
 use crate::kind::block_capacity;
 use crate::kind::header_len;
+use crate::offsets;
 use crate::uuid::is_uuid;
 use codec::crc::crc32c_with_zeroed_crc;
 use codec::endian::be16;
 use codec::endian::be32;
 use codec::endian::be64;
 use codec::endian::le32;
+use codec::refusal::Told;
 
 // A field of the header that failed, with what was expected and what was found.
 pub enum Field {
@@ -43,6 +48,37 @@ pub enum BlockRefusal {
     BadField(Field),
 }
 
+impl Field {
+    // The number of the field's question, and its values.
+    pub(crate) fn told(self) -> Told
+        ensures { λ t. ⌜ Tells t (fieldNumber self) (fieldValues self) ⌝ }
+    {
+        match self {
+            Field::Magic { expected, found } => Told::two(4, expected, found),
+            Field::Crc { expected, found } => Told::two(5, expected, found),
+            Field::Owner { expected, found } => Told::two(7, expected, found),
+            Field::Address { expected, found } => Told::two(8, expected, found),
+            Field::Level { expected, found } => Told::two(9, expected, found),
+            Field::Records { expected, found } => Told::two(10, expected, found),
+        }
+    }
+}
+
+impl BlockRefusal {
+    // The number of the question that failed, and its values.
+    pub fn told(self) -> Told
+        ensures { λ t. ⌜ Tells t (refusalNumber self) (refusalValues self) ⌝ }
+    {
+        match self {
+            BlockRefusal::BadGeometry => Told::plain(1),
+            BlockRefusal::Short => Told::plain(2),
+            BlockRefusal::NoTree => Told::plain(3),
+            BlockRefusal::Uuid => Told::plain(6),
+            BlockRefusal::BadField(f) => f.told(),
+        }
+    }
+}
+
 // A header that has been read and checked.
 pub struct Header {
     pub level: u16,
@@ -64,7 +100,7 @@ fn check_contents(g: Geometry, kind: TreeKind, level: u16, b: &[u8]) -> Checked
     ensures { λ r. ⌜ checkedOutcome r ≡ contentOutcome g kind level (now (b .entry)) ⌝ }
 {
     let version = g.version;
-    let found = be16(b, 4);
+    let found = be16(b, offsets::LEVEL);
     if found != level {
         return Checked::Refused(BlockRefusal::BadField(Field::Level {
             expected: level as u64,
@@ -72,7 +108,7 @@ fn check_contents(g: Geometry, kind: TreeKind, level: u16, b: &[u8]) -> Checked
         }));
     }
     let maxrecs = block_capacity(kind, version, level, b.len());
-    let numrecs = be16(b, 6);
+    let numrecs = be16(b, offsets::NUMRECS);
     if maxrecs < (numrecs as usize) {
         return Checked::Refused(BlockRefusal::BadField(Field::Records {
             expected: maxrecs as u64,
@@ -90,11 +126,11 @@ fn check_contents(g: Geometry, kind: TreeKind, level: u16, b: &[u8]) -> Checked
 
 // Questions 5 to 8, on version 5, then 9 and 10.
 fn check_identity(g: Geometry, kind: TreeKind, block: AgBlock, level: u16, b: &[u8]) -> Checked
-    requires { ⌜ (geometryOk g ≡ true) × (headerLen (g .version) ≤ length (now b)) × (56 ≤ length (now b)) ⌝ }
+    requires { ⌜ (geometryOk g ≡ true) × (headerLen (g .version) ≤ length (now b)) × (v5HeaderLen ≤ length (now b)) ⌝ }
     ensures { λ r. ⌜ checkedOutcome r ≡ identityOutcome g kind (block .0) level (now (b .entry)) ⌝ }
 {
-    let crc = crc32c_with_zeroed_crc(b, 52);
-    let stored = le32(b, 52);
+    let crc = crc32c_with_zeroed_crc(b, offsets::CRC);
+    let stored = le32(b, offsets::CRC);
     if stored != crc {
         return Checked::Refused(BlockRefusal::BadField(Field::Crc {
             expected: crc as u64,
@@ -102,11 +138,11 @@ fn check_identity(g: Geometry, kind: TreeKind, block: AgBlock, level: u16, b: &[
         }));
     }
     let uuid = g.meta_uuid;
-    if !is_uuid(b, 32, uuid) {
+    if !is_uuid(b, offsets::UUID, uuid) {
         return Checked::Refused(BlockRefusal::Uuid);
     }
     let agno = g.agno;
-    let owner = be32(b, 48);
+    let owner = be32(b, offsets::OWNER);
     if owner != agno {
         return Checked::Refused(BlockRefusal::BadField(Field::Owner {
             expected: agno as u64,
@@ -114,7 +150,7 @@ fn check_identity(g: Geometry, kind: TreeKind, block: AgBlock, level: u16, b: &[
         }));
     }
     let address = block.linear(g).address(g).0;
-    let stated = be64(b, 16);
+    let stated = be64(b, offsets::BLKNO);
     if stated != address {
         return Checked::Refused(BlockRefusal::BadField(Field::Address {
             expected: address,
@@ -140,7 +176,7 @@ pub fn check_block(g: Geometry, kind: TreeKind, block: AgBlock, level: u16, b: &
         return Checked::Refused(BlockRefusal::NoTree);
     }
     let magic = kind.magic(version);
-    let found = be32(b, 0);
+    let found = be32(b, offsets::MAGIC);
     if found != magic {
         return Checked::Refused(BlockRefusal::BadField(Field::Magic {
             expected: magic as u64,

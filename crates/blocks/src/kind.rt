@@ -1,6 +1,16 @@
 // The kinds of tree, by their lengths.
 ghost use mathlib.Core.Path.{_≡_};
 ghost use Rattle.blocks.specs.Tree.{headerLen, hasTree, magicOf, recordLen, keysLen, entryLen, placeLen, capacity};
+use crate::offsets::V4_HEADER_LEN;
+use crate::offsets::V5_HEADER_LEN;
+use codec::refcount::REFCOUNT_LEN;
+use codec::rmap::RMAP_LEN;
+
+// A key of the reverse map; an entry has two of them, low and high.
+pub const RMAP_KEY_LEN: usize = 20;
+
+// A pointer of a node: a block number of the group.
+pub const PTR_LEN: usize = 4;
 
 pub enum TreeKind {
     Rmap,
@@ -33,8 +43,8 @@ impl TreeKind {
         ensures { λ r. ⌜ r ≡ recordLen self ⌝ }
     {
         match self {
-            TreeKind::Rmap => 24,
-            TreeKind::Refcount => 12,
+            TreeKind::Rmap => RMAP_LEN,
+            TreeKind::Refcount => REFCOUNT_LEN,
         }
     }
 
@@ -43,7 +53,7 @@ impl TreeKind {
         ensures { λ r. ⌜ r ≡ keysLen self ⌝ }
     {
         match self {
-            TreeKind::Rmap => 40,
+            TreeKind::Rmap => RMAP_KEY_LEN * 2,
             TreeKind::Refcount => 4,
         }
     }
@@ -52,10 +62,7 @@ impl TreeKind {
     pub fn entry_len(self) -> usize
         ensures { λ r. ⌜ r ≡ entryLen self ⌝ }
     {
-        match self {
-            TreeKind::Rmap => 44,
-            TreeKind::Refcount => 8,
-        }
+        self.keys_len() + PTR_LEN
     }
 
     // What one place of a block at a level takes: a record in a leaf, an entry in a node.
@@ -74,7 +81,11 @@ impl TreeKind {
 pub fn header_len(version: u16) -> usize
     ensures { λ r. ⌜ r ≡ headerLen version ⌝ }
 {
-    if version == 5 { 56 } else { 16 }
+    if version == 5 {
+        V5_HEADER_LEN
+    } else {
+        V4_HEADER_LEN
+    }
 }
 
 // How many records or entries a block of `len` bytes holds at a level.

@@ -3,5 +3,6 @@
 pub mod check;
 pub mod geometry;
 pub mod kind;
+pub mod offsets;
 pub mod stamp;
 mod uuid;

@@ -5,28 +5,30 @@ ghost use Prim.Native.Nat.{_≤_};
 ghost use lib.ListN.{length};
 ghost use Rattle.codec.specs.Bytes.{withBytes};
 ghost use Rattle.blocks.specs.Geometry.{geometryOk};
+ghost use Rattle.blocks.specs.Offsets.{leftSiblingAt, blknoAt, crcAt, magicAt, v4HeaderLen};
 ghost use Rattle.blocks.specs.Tree.{headerLen, hasTree};
 ghost use Rattle.blocks.specs.Stamp.{siblings, plainHead, identityHead, stamped};
 use crate::geometry::AgBlock;
 use crate::geometry::Geometry;
 use crate::kind::TreeKind;
-use crate::uuid::put_uuid;
+use crate::offsets;
+use codec::copy::copy;
 use codec::crc::crc32c_with_zeroed_crc;
 use codec::endian::put_be16;
 use codec::endian::put_be32;
 use codec::endian::put_be64;
 use codec::endian::put_le32;
 
-// Bytes 8 to 15 of a fresh block.
+// The siblings of a fresh block.
 fn stamp_siblings(left: AgBlock, right: AgBlock, b: &mut [u8])
-    requires { ⌜ 16 ≤ length (now b) ⌝ }
-    ensures { λ _. ⌜ now (b .exit) ≡ withBytes (now (b .entry)) 8 (siblings (left .0) (right .0)) ⌝ }
+    requires { ⌜ v4HeaderLen ≤ length (now b) ⌝ }
+    ensures { λ _. ⌜ now (b .exit) ≡ withBytes (now (b .entry)) leftSiblingAt (siblings (left .0) (right .0)) ⌝ }
 {
-    put_be32(b, 8, left.0);
-    put_be32(b, 12, right.0);
+    put_be32(b, offsets::LEFT_SIBLING, left.0);
+    put_be32(b, offsets::RIGHT_SIBLING, right.0);
 }
 
-// Bytes 0 to 15 of a fresh block.
+// The fields of a fresh block that every version has.
 fn stamp_plain(
     kind: TreeKind,
     version: u16,
@@ -36,31 +38,31 @@ fn stamp_plain(
     right: AgBlock,
     b: &mut [u8],
 )
-    requires { ⌜ 16 ≤ length (now b) ⌝ }
-    ensures { λ _. ⌜ now (b .exit) ≡ withBytes (now (b .entry)) 0 (plainHead kind version level numrecs (left .0) (right .0)) ⌝ }
+    requires { ⌜ v4HeaderLen ≤ length (now b) ⌝ }
+    ensures { λ _. ⌜ now (b .exit) ≡ withBytes (now (b .entry)) magicAt (plainHead kind version level numrecs (left .0) (right .0)) ⌝ }
 {
     let magic = kind.magic(version);
-    put_be32(b, 0, magic);
-    put_be16(b, 4, level);
-    put_be16(b, 6, numrecs);
+    put_be32(b, offsets::MAGIC, magic);
+    put_be16(b, offsets::LEVEL, level);
+    put_be16(b, offsets::NUMRECS, numrecs);
     stamp_siblings(left, right, b);
 }
 
-// Bytes 16 to 51 of a fresh block. Its sequence number is 0.
+// The fields that version 5 has before the check. The sequence number is 0.
 fn stamp_identity(g: Geometry, block: AgBlock, b: &mut [u8])
-    requires { ⌜ (geometryOk g ≡ true) × (52 ≤ length (now b)) ⌝ }
-    ensures { λ _. ⌜ now (b .exit) ≡ withBytes (now (b .entry)) 16 (identityHead g (block .0)) ⌝ }
+    requires { ⌜ (geometryOk g ≡ true) × (crcAt ≤ length (now b)) ⌝ }
+    ensures { λ _. ⌜ now (b .exit) ≡ withBytes (now (b .entry)) blknoAt (identityHead g (block .0)) ⌝ }
 {
     let address = block.linear(g).address(g).0;
     let uuid = g.meta_uuid;
     let agno = g.agno;
-    put_be64(b, 16, address);
-    put_be64(b, 24, 0);
-    put_uuid(b, 32, uuid);
-    put_be32(b, 48, agno);
+    put_be64(b, offsets::BLKNO, address);
+    put_be64(b, offsets::LSN, 0);
+    copy(&uuid, b, offsets::UUID);
+    put_be32(b, offsets::OWNER, agno);
 }
 
-// The header of a fresh block, with its check: on version 5 the whole 56 bytes, on version 4, which has neither kind of today, the first 16.
+// The header of a fresh block, with its check: on version 5 all of its fields, on version 4, which has neither kind of today, those of every version.
 // The check is over all of `b`, so what stands after the header has to be there already. The caller has asked questions 1 to 3.
 pub fn stamp(
     g: Geometry,
@@ -79,7 +81,7 @@ pub fn stamp(
     stamp_plain(kind, version, level, numrecs, left, right, b);
     if version == 5 {
         stamp_identity(g, block, b);
-        let crc = crc32c_with_zeroed_crc(b, 52);
-        put_le32(b, 52, crc);
+        let crc = crc32c_with_zeroed_crc(b, offsets::CRC);
+        put_le32(b, offsets::CRC, crc);
     }
 }

@@ -2,7 +2,7 @@
 ghost use mathlib.Core.Path.{_≡_};
 ghost use Prim.Native.Nat.{_+_, _≤_};
 ghost use lib.ListN.{length};
-ghost use Rattle.codec.specs.Bytes.{bytesAt, withBytes};
+ghost use Rattle.codec.specs.Bytes.{bytesAt};
 ghost use Rattle.blocks.specs.Check.{same};
 
 // Do the 16 bytes at `at` equal `uuid`?
@@ -18,16 +18,4 @@ pub(crate) fn is_uuid(b: &[u8], at: usize, uuid: [u8; 16]) -> bool
         i += 1;
     }
     true
-}
-
-// Write `uuid` at `at`.
-pub(crate) fn put_uuid(b: &mut [u8], at: usize, uuid: [u8; 16])
-    requires { ⌜ at + 16 ≤ length (now b) ⌝ }
-    ensures { λ _. ⌜ now (b .exit) ≡ withBytes (now (b .entry)) at uuid ⌝ }
-{
-    let mut i = 0;
-    while i < 16 {
-        b[at + i] = uuid[i];
-        i += 1;
-    }
 }

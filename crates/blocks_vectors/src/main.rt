@@ -2,6 +2,7 @@
 // and, where there are two numbers, what was expected and what was found. `stdout` was worked out apart from this code.
 ghost use Prim.Native.Nat.{_≤_};
 ghost use lib.ListN.{length};
+ghost use Rattle.blocks.specs.Offsets.{v5HeaderLen};
 use blocks::check::Checked;
 use blocks::check::Header;
 use blocks::check::check_block;
@@ -9,7 +10,7 @@ use blocks::geometry::AgBlock;
 use blocks::geometry::Geometry;
 use blocks::kind::TreeKind;
 use codec::endian::be64;
-use show::lines::show_block_refusal;
+use show::lines::show_told;
 use show::samples::between;
 use show::samples::damage;
 use show::samples::fresh;
@@ -38,7 +39,7 @@ fn show(name: &[u8], answer: Checked) {
     match answer {
         Checked::Good(h) => show_good(h),
         Checked::Refused(r) => {
-            show_block_refusal(r);
+            show_told(r.told());
         }
     }
     newline();
@@ -113,7 +114,7 @@ fn show_header() {
 }
 
 fn words(b: &[u8])
-    requires { ⌜ 56 ≤ length (now b) ⌝ }
+    requires { ⌜ v5HeaderLen ≤ length (now b) ⌝ }
 {
     word(be64(b, 0));
     word(be64(b, 8));

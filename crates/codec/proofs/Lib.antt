@@ -2,8 +2,8 @@ pub mod Table
 pub mod Xor
 pub mod Division
 pub mod Words
-pub mod Polynomial
 pub mod CrcRange
+pub mod Polynomial
 pub mod Parts
 pub mod Numbers
 pub mod Fields

@@ -2,9 +2,10 @@
 -- Assumes nothing.
 use Prim.Native.Nat.{ℕ, _+_, _*_, _/_, _%_, _≤_, _<_}
 use native.Mathlib.Numerals.{add-one}
-use mathlib.Core.Path.{_≡_, _∙_}
+use mathlib.Core.Path.{_≡_, refl, sym, _∙_}
 use mathlib.Core.Bool.{Bool, true, false, _&&_}
 use mathlib.Core.List.{List, [], _∷_}
+use native.Mathlib.Omega.{arith}
 use lib.ListN.{length, drop, drop-of-length-le}
 use borrow.Author.Tests.{eq-eqb, ne-eqb}
 use Rattle.codec.specs.Bytes.{bytesAt}
@@ -31,6 +32,34 @@ module _ {R : Type 0} (k : Kind R) (good : R → Bool) (follows : R → R → Bo
   pub order-end : length l / k .size ≤ i → inOrder good follows q (drop i (recordsOf k l)) ≡ true
   unfolding inOrder
   order-end h = rw (drop-of-length-le (recordsOf k l) {i = i} (rw (length-recordsOf k l) h))
+
+-- ---- a loop that reads one record after another
+
+-- the records before the i-th passed: those from there on, behind q, decide as the whole list
+pub record Passed {R : Type 0} (k : Kind R) (good : R → Bool) (follows : R → R → Bool) (least : R) (l : List ℕ) (i : ℕ) (q : R) : Type 0 where
+  pub within : i ≤ length l / k .size
+  pub rest : inOrder good follows least (recordsOf k l) ≡ inOrder good follows q (drop i (recordsOf k l))
+
+pub none-passed : {R : Type 0} {k : Kind R} {good : R → Bool} {follows : R → R → Bool} {least : R} {l : List ℕ} → Passed k good follows least l 0 least
+none-passed = record { within = omega arith; rest = refl }
+
+module _
+    {R : Type 0} {k : Kind R} {good : R → Bool} {follows : R → R → Bool} {least : R} {l : List ℕ} {i : ℕ} {q : R}
+    (p : Passed k good follows least l i q)
+  where
+    module _ {x : R} (inside : i < length l / k .size) (read : x ≡ k .decode (bytesAt l (i * k .size) (k .size))) where
+      pub stops-bad : good x ≡ false → false ≡ inOrder good follows least (recordsOf k l)
+      stops-bad b = sym (p .rest ∙ order-bad k good follows l i q x inside read b)
+
+      module _ (b : good x ≡ true) where
+        pub stops-low : follows q x ≡ false → false ≡ inOrder good follows least (recordsOf k l)
+        stops-low f = sym (p .rest ∙ order-low k good follows l i q x inside read b f)
+
+        pub passes : follows q x ≡ true → Passed k good follows least l (i + 1) x
+        passes f = record { within = omega arith; rest = p .rest ∙ order-pass k good follows l i q x inside read b f }
+
+    pub all-passed : length l / k .size ≤ i → true ≡ inOrder good follows least (recordsOf k l)
+    all-passed h = sym (p .rest ∙ order-end k good follows l i q h)
 
 -- ---- 19, then one question more
 

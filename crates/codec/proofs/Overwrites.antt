@@ -1,13 +1,13 @@
--- Laws of a list with bytes put in: it is bytes, what lies after them is as it was, and a second write at the same place takes the first away.
+-- Laws of a list with bytes put in: it is bytes, and a second write at the same place takes the first away.
 -- Assumes nothing.
-use mathlib.Core.Path.{_≡_, sym, ap, ap₂, _∙_}
+use mathlib.Core.Path.{_≡_, ap, ap₂, _∙_}
 use mathlib.Core.List.{List, [], _∷_, _++_, append-assoc, reverse, reverse-append}
 use Prim.Native.Nat.{ℕ, zero, suc, _+_, _≤_, _<_}
 use native.Mathlib.Omega.{arith}
-use lib.ListN.{length, take, drop, length-drop}
-use lib.Seq.{length-take-le, take-at, take-all, drop-at}
+use lib.ListN.{length, take, drop}
+use lib.Seq.{length-take-le, take-at, drop-at}
 use Rattle.codec.specs.Bytes.{IsBytes, bytesAt, withBytes, beBytes, leBytes}
-use Rattle.codec.proofs.Parts.{length-withBytes, bytesAt-after}
+use Rattle.codec.proofs.Parts.{drop-after}
 use Rattle.codec.proofs.FieldLists.{isBytes-take, isBytes-drop, isBytes-append, isBytes-beBytes}
 
 -- ---- bytes
@@ -41,16 +41,6 @@ pub bytesAt-past : (p q : List ℕ) (n w : ℕ) → length p ≡ n → bytesAt (
 unfolding bytesAt
 bytesAt-past p q n w e = ap (take w) (drop-at p q n e)
 
-pub drop-withBytes : (l : List ℕ) (at : ℕ) (bs : List ℕ) (a : ℕ) → at + length bs ≤ length l → at + length bs ≤ a
-    → drop a (withBytes l at bs) ≡ drop a l
-unfolding bytesAt
-drop-withBytes l at bs a fits h =
-    let m : List ℕ = withBytes l at bs in
-    let long : length m ≡ length l = length-withBytes l at bs fits in
-    sym (take-all (length l) (drop a m) (rw length-drop (omega arith)))
-    ∙ bytesAt-after l at bs fits a (length l) h
-    ∙ take-all (length l) (drop a l) (rw length-drop (omega arith))
-
 pub withBytes-again : (l : List ℕ) (at : ℕ) (xs ys : List ℕ) → at + length xs ≤ length l → length xs ≡ length ys
     → withBytes (withBytes l at xs) at ys ≡ withBytes l at ys
 unfolding withBytes
@@ -58,4 +48,4 @@ withBytes-again l at xs ys h e =
     let front : take at (withBytes l at xs) ≡ take at l =
     ap (take at) (append-assoc (take at l) xs (drop (at + length xs) l))
     ∙ take-at (take at l) (xs ++ drop (at + length xs) l) at (length-take-le at l (omega arith)) in
-    ap₂ (λ (p q : List ℕ). p ++ ys ++ q) front (drop-withBytes l at xs (at + length ys) h (omega arith))
+    ap₂ (λ (p q : List ℕ). p ++ ys ++ q) front (drop-after l at xs h (at + length ys) (omega arith))

@@ -1,45 +1,44 @@
 -- The tests of one shared count, from what holds of its numbers.
 -- Assumes nothing.
-use Prim.Native.Nat.{_^_, _≤_, _<_}
+use Prim.Native.Nat.{_≤_, _<_}
 use mathlib.Core.Path.{_≡_, refl}
-use mathlib.Core.Bool.{true, false}
+use mathlib.Core.Bool.{Bool, true, false}
 use lib.Dec.{leb, eqb}
 use borrow.Author.Tests.{lt-ltb, le-leb, lt-leb}
 use Rattle.codec.specs.declared.refcount.Refcount.{Refcount}
+use Rattle.codec.specs.Accepted.{endLimit}
 use Rattle.codec.specs.Refcounts.{staging, block, end, good, follows}
 
 module _ (r : Refcount) where
-  pub good-long : 2 ^ 31 < end r → false ≡ good r
+  pub good-long : endLimit < end r → false ≡ good r
   unfolding good
   good-long h = simp (lt-leb _ _ h)
 
-  module _ (a : end r ≤ 2 ^ 31) where
+  module _ (a : end r ≤ endLimit) where
     pub good-zero : r .blockcount ≡ 0 → false ≡ good r
     unfolding good
     good-zero h = rw (le-leb _ _ a) (rw h refl)
 
     module _ (b : 0 < r .blockcount) where
-      pub good-staging : 2 ^ 31 ≤ r .startblock → eqb (r .refcount) 1 ≡ good r
-      unfolding good staging
-      good-staging h = simp (le-leb _ _ a, lt-ltb _ _ b, le-leb _ _ h)
+      pub good-staging : staging r ≡ true → eqb (r .refcount) 1 ≡ good r
+      unfolding good
+      good-staging h = simp (le-leb _ _ a, lt-ltb _ _ b, h)
 
-      pub good-shared : r .startblock < 2 ^ 31 → leb 2 (r .refcount) ≡ good r
-      unfolding good staging
-      good-shared h = simp (le-leb _ _ a, lt-ltb _ _ b, lt-leb _ _ h)
+      pub good-shared : staging r ≡ false → leb 2 (r .refcount) ≡ good r
+      unfolding good
+      good-shared h = simp (le-leb _ _ a, lt-ltb _ _ b, h)
 
 module _ (q r : Refcount) where
-  pub follows-shared : 2 ^ 31 ≤ q .startblock → r .startblock < 2 ^ 31 → false ≡ follows q r
-  unfolding follows staging
-  follows-shared a b = simp (le-leb _ _ a, lt-leb _ _ b)
+  pub follows-shared : staging q ≡ true → staging r ≡ false → false ≡ follows q r
+  unfolding follows
+  follows-shared a b = simp (a, b)
 
-  pub follows-staging : q .startblock < 2 ^ 31 → 2 ^ 31 ≤ r .startblock → true ≡ follows q r
-  unfolding follows staging
-  follows-staging a b = simp (lt-leb _ _ a, le-leb _ _ b)
+  pub follows-staging : staging q ≡ false → staging r ≡ true → true ≡ follows q r
+  unfolding follows
+  follows-staging a b = simp (a, b)
 
-  pub follows-both-staging : 2 ^ 31 ≤ q .startblock → 2 ^ 31 ≤ r .startblock → leb (end q) (block r) ≡ follows q r
-  unfolding follows staging
-  follows-both-staging a b = simp (le-leb (2 ^ 31) (q .startblock) a, le-leb (2 ^ 31) (r .startblock) b)
-
-  pub follows-both-shared : q .startblock < 2 ^ 31 → r .startblock < 2 ^ 31 → leb (end q) (block r) ≡ follows q r
-  unfolding follows staging
-  follows-both-shared a b = simp (lt-leb (2 ^ 31) (q .startblock) a, lt-leb (2 ^ 31) (r .startblock) b)
+  -- of one kind
+  pub follows-alike : (t : Bool) → staging q ≡ t → staging r ≡ t → leb (end q) (block r) ≡ follows q r
+  unfolding follows
+  follows-alike true a b = simp (a, b)
+  follows-alike false a b = simp (a, b)

@@ -1,13 +1,14 @@
 -- The tests of one reverse-map record, from what holds of its numbers.
 -- Assumes nothing.
-use Prim.Native.Nat.{ℕ, _+_, _/_, _%_, _^_, _≤_, _<_}
+use Prim.Native.Nat.{ℕ, _+_, _/_, _%_, _≤_, _<_}
 use native.Mathlib.Nat.{div-div-eq-div-mul}
 use mathlib.Core.Path.{_≡_, refl, ap, sym, _∙_}
 use mathlib.Core.Bool.{Bool, true, false, not, _||_}
 use lib.Dec.{ltb, eqb}
 use borrow.Author.Tests.{lt-ltb, le-ltb, le-leb, lt-leb, eq-eqb, ne-eqb}
 use Rattle.codec.specs.declared.rmap.Rmap.{Rmap}
-use Rattle.codec.specs.Rmaps.{end, fileOffset, reserved, mapping, exempt, keyOffset, before, good, follows}
+use Rattle.codec.specs.Accepted.{endLimit}
+use Rattle.codec.specs.Rmaps.{offLimit, offBmbtBlock, end, fileOffset, reserved, mapping, exempt, keyOffset, before, good, follows}
 
 module _ (r s : Rmap) where
   pub before-start : (r .startblock ≡ s .startblock → ⊥) → ltb (r .startblock) (s .startblock) ≡ before r s
@@ -42,28 +43,28 @@ or-false true = refl
 or-false false = refl
 
 module _ (r : Rmap) where
-  pub exempt-reserved : 2 ^ 63 ≤ r .owner → true ≡ exempt r
-  unfolding exempt reserved
-  exempt-reserved h = simp (le-leb _ _ h)
+  pub exempt-reserved : reserved (r .owner) ≡ true → true ≡ exempt r
+  unfolding exempt
+  exempt-reserved h = simp h
 
-  pub exempt-plain : r .owner < 2 ^ 63 → eqb (r .offset / 2 ^ 62 % 2) 1 ≡ exempt r
-  unfolding exempt reserved mapping
-  exempt-plain h = simp (lt-leb _ _ h) (ap (λ (n : ℕ). eqb (n % 2) 1) (sym (div-div-eq-div-mul (r .offset) (2 ^ 54) (2 ^ 8))))
+  pub exempt-plain : reserved (r .owner) ≡ false → eqb (r .offset / offBmbtBlock % 2) 1 ≡ exempt r
+  unfolding exempt mapping
+  exempt-plain h = simp h (ap (λ (n : ℕ). eqb (n % 2) 1) (sym (div-div-eq-div-mul (r .offset) offLimit (offBmbtBlock / offLimit))))
 
   pub good-zero : r .blockcount ≡ 0 → false ≡ good r
   unfolding good
   good-zero h = rw h refl
 
   module _ (a : 0 < r .blockcount) where
-    pub good-long : 2 ^ 31 < end r → false ≡ good r
+    pub good-long : endLimit < end r → false ≡ good r
     unfolding good
     good-long h = simp (lt-ltb _ _ a, lt-leb _ _ h)
 
-    module _ (b : end r ≤ 2 ^ 31) where
-      pub good-near : fileOffset r + r .blockcount ≤ 2 ^ 54 → true ≡ good r
+    module _ (b : end r ≤ endLimit) where
+      pub good-near : fileOffset r + r .blockcount ≤ offLimit → true ≡ good r
       unfolding good
       good-near h = simp (lt-ltb _ _ a, le-leb _ _ b, le-leb _ _ h) (sym (or-true (exempt r)))
 
-      pub good-far : 2 ^ 54 < fileOffset r + r .blockcount → (t : Bool) → t ≡ exempt r → t ≡ good r
+      pub good-far : offLimit < fileOffset r + r .blockcount → (t : Bool) → t ≡ exempt r → t ≡ good r
       unfolding good
       good-far h t e = simp (lt-ltb _ _ a, le-leb _ _ b, lt-leb _ _ h) (e ∙ sym (or-false (exempt r)))

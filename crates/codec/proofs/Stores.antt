@@ -3,13 +3,14 @@
 use mathlib.Core.Path.{_≡_, refl, sym, ap, ap₂, _∙_}
 use mathlib.Core.List.{List, [], _∷_, _++_, append-nil}
 use Prim.Native.Nat.{ℕ, _+_, _-_, _≤_, _<_}
-use native.Mathlib.Nat.{add-zero}
+use native.Mathlib.Nat.{add-zero, le-refl}
 use native.Mathlib.Numerals.{add-one}
 use native.Mathlib.Omega.{arith}
-use lib.ListN.{length, getD, set, take, drop, replicate, length-append, length-replicate, take-append-drop, drop-of-length-le, replicate-append-replicate}
-use lib.Seq.{take-at, drop-at, length-take-le, take-suc, take-all}
+use lib.ListN.{length, getD, set, take, drop, replicate, length-replicate, take-append-drop, drop-of-length-le, replicate-append-replicate}
+use lib.Seq.{length-take-le, take-suc, take-all}
 use Rattle.codec.specs.Bytes.{bytesAt, withBytes}
-use Rattle.codec.proofs.Parts.{length-withBytes, withBytes-one, withBytes-add}
+use Rattle.codec.proofs.Parts.{drop-after, length-withBytes, withBytes-one, withBytes-add}
+pub use Rattle.codec.proofs.Parts.{take-withBytes}
 
 pub bytesAt-is : (l : List ℕ) (at w : ℕ) → bytesAt l at w ≡ take w (drop at l)
 unfolding bytesAt
@@ -35,17 +36,9 @@ withBytes-all l bs e =
     ap (λ (t : List ℕ). bs ++ t) (drop-of-length-le l h) ∙ append-nil bs
 
 module _ (l : List ℕ) (at : ℕ) (bs : List ℕ) (fits : at + length bs ≤ length l) where
-  head-length : length (take at l ++ bs) ≡ at + length bs
-  head-length = length-append (take at l) bs ∙ ap (λ (k : ℕ). k + length bs) (length-take-le at l (omega arith))
-
-  -- what lies up to the end of a store, and after it
-  pub take-withBytes : take (at + length bs) (withBytes l at bs) ≡ take at l ++ bs
-  unfolding withBytes
-  take-withBytes = take-at (take at l ++ bs) (drop (at + length bs) l) (at + length bs) head-length
-
+  -- what lies after a store
   pub drop-withBytes : drop (at + length bs) (withBytes l at bs) ≡ drop (at + length bs) l
-  unfolding withBytes
-  drop-withBytes = drop-at (take at l ++ bs) (drop (at + length bs) l) (at + length bs) head-length
+  drop-withBytes = drop-after l at bs fits (at + length bs) (le-refl (at + length bs))
 
 -- one more element after those put in
 module _ (l s bs : List ℕ) (at k v : ℕ) (e : k ≡ at + length bs) (h : k < length l) (q : s ≡ withBytes l at bs) where
@@ -69,15 +62,15 @@ module _ (l s src : List ℕ) (at i : ℕ) where
   pub copy-done : i ≡ length src → s ≡ withBytes l at (take i src) → s ≡ withBytes l at src
   copy-done e q = q ∙ ap (withBytes l at) (take-all i src (omega arith))
 
--- a loop that clears a list from the front
+-- a loop that makes a list zero from the front
 module _ (l s : List ℕ) (i : ℕ) where
-  pub clear-more : i < length l → s ≡ withBytes l 0 (replicate i 0) → set s i 0 ≡ withBytes l 0 (replicate (i + 1) 0)
-  clear-more h q =
+  pub zeros-more : i < length l → s ≡ withBytes l 0 (replicate i 0) → set s i 0 ≡ withBytes l 0 (replicate (i + 1) 0)
+  zeros-more h q =
       let n = length-replicate {A = ℕ} i 0 in
       withBytes-more l s (replicate i 0) 0 i 0 (omega (arith, n)) h q ∙ ap (withBytes l 0) (replicate-append-replicate i 1 0)
 
-  pub clear-done : i ≡ length l → s ≡ withBytes l 0 (replicate i 0) → s ≡ replicate (length l) 0
-  clear-done e q =
+  pub zeros-done : i ≡ length l → s ≡ withBytes l 0 (replicate i 0) → s ≡ replicate (length l) 0
+  zeros-done e q =
       q ∙ ap (λ (k : ℕ). withBytes l 0 (replicate k 0)) e ∙ withBytes-all l (replicate (length l) 0) (length-replicate {A = ℕ} (length l) 0)
 
 -- a store right after a store is one store

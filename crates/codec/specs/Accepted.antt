@@ -1,10 +1,14 @@
 -- What makes lent bytes a list that an edit or a build takes: whole records (19), each of them good and in its order (20, 21).
 -- Assumes nothing.
-use Prim.Native.Nat.{ℕ, _%_}
+use Prim.Native.Nat.{ℕ, _%_, _^_}
 use mathlib.Core.Bool.{Bool, true, _&&_}
 use mathlib.Core.List.{List, [], _∷_}
 use lib.Dec.{eqb}
 use lib.ListN.{length}
+
+-- the largest end of an extent
+abbrev pub endLimit : ℕ
+endLimit = 2 ^ 31
 
 -- 19: is the length a multiple of the record's?
 unfoldable pub whole : ℕ → List ℕ → Bool

@@ -12,10 +12,13 @@ pub struct FreeExtent {
     pub blockcount: u32,
 }
 
+// The bytes of an extent.
+pub const EXTENT_LEN: usize = 8;
+
 // The extent at `at` bytes into `buf`.
 pub fn decode(buf: &[u8], at: usize) -> FreeExtent
-    requires { ⌜ at + 8 ≤ length (now buf) ⌝ }
-    ensures { λ r. ⌜ r ≡ freeExtents .decode (bytesAt (now (buf .entry)) at 8) ⌝ }
+    requires { ⌜ at + freeExtents .size ≤ length (now buf) ⌝ }
+    ensures { λ r. ⌜ r ≡ freeExtents .decode (bytesAt (now (buf .entry)) at (freeExtents .size)) ⌝ }
 {
     FreeExtent {
         startblock: be32(buf, at),
@@ -25,7 +28,7 @@ pub fn decode(buf: &[u8], at: usize) -> FreeExtent
 
 // `e` written at `at` bytes into `buf`.
 pub fn encode(buf: &mut [u8], at: usize, e: FreeExtent)
-    requires { ⌜ at + 8 ≤ length (now buf) ⌝ }
+    requires { ⌜ at + freeExtents .size ≤ length (now buf) ⌝ }
     ensures { λ _. ⌜ now (buf .exit) ≡ withBytes (now (buf .entry)) at (freeExtents .encode e) ⌝ }
 {
     put_be32(buf, at, e.startblock);

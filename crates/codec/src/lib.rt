@@ -6,4 +6,5 @@ pub mod crc;
 pub mod endian;
 pub mod free_extent;
 pub mod refcount;
+pub mod refusal;
 pub mod rmap;

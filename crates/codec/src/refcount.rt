@@ -4,8 +4,9 @@ ghost use Prim.Native.Nat.{_+_, _≤_};
 ghost use lib.ListN.{length};
 ghost use Rattle.codec.specs.Bytes.{bytesAt, withBytes};
 ghost use Rattle.codec.specs.Records.{recordsOf, refcounts};
-ghost use Rattle.codec.specs.Refcounts.{good, follows, accepted, checkOrder};
+ghost use Rattle.codec.specs.Refcounts.{staging, block, end, good, follows, accepted, checkOrder};
 ghost use Rattle.codec.specs.ListRefusal.{listOutcome};
+use crate::check::END_LIMIT;
 use crate::check::ListChecked;
 use crate::check::ListRefusal;
 use crate::endian::be32;
@@ -19,15 +20,41 @@ pub struct Refcount {
 }
 
 // The bytes of a record.
-const RECORD: usize = 12;
+pub const REFCOUNT_LEN: usize = 12;
 
 // Bit 31 of the start.
-const COW_FLAG: u32 = 0x8000_0000;
+pub const COW_FLAG: u32 = 0x8000_0000;
+
+// The most owners that a record can tell of.
+pub const MAXREFCOUNT: u32 = 0xFFFF_FFFF;
+
+impl Refcount {
+    // Does it stage a copy on write?
+    pub fn is_staging(self) -> bool
+        ensures { λ t. ⌜ t ≡ staging self ⌝ }
+    {
+        COW_FLAG <= self.startblock
+    }
+
+    // Its first block.
+    pub fn block(self) -> u32
+        ensures { λ n. ⌜ n ≡ block self ⌝ }
+    {
+        self.startblock % COW_FLAG
+    }
+
+    // One more than its last block.
+    pub fn end(self) -> u64
+        ensures { λ n. ⌜ n ≡ end self ⌝ }
+    {
+        self.block() as u64 + self.blockcount as u64
+    }
+}
 
 // The record at `at` bytes into `buf`.
 pub fn decode(buf: &[u8], at: usize) -> Refcount
-    requires { ⌜ at + 12 ≤ length (now buf) ⌝ }
-    ensures { λ r. ⌜ r ≡ refcounts .decode (bytesAt (now (buf .entry)) at 12) ⌝ }
+    requires { ⌜ at + refcounts .size ≤ length (now buf) ⌝ }
+    ensures { λ r. ⌜ r ≡ refcounts .decode (bytesAt (now (buf .entry)) at (refcounts .size)) ⌝ }
 {
     Refcount {
         startblock: be32(buf, at),
@@ -38,7 +65,7 @@ pub fn decode(buf: &[u8], at: usize) -> Refcount
 
 // `r` written at `at` bytes into `buf`.
 pub fn encode(buf: &mut [u8], at: usize, r: Refcount)
-    requires { ⌜ at + 12 ≤ length (now buf) ⌝ }
+    requires { ⌜ at + refcounts .size ≤ length (now buf) ⌝ }
     ensures { λ _. ⌜ now (buf .exit) ≡ withBytes (now (buf .entry)) at (refcounts .encode r) ⌝ }
 {
     put_be32(buf, at, r.startblock);
@@ -50,13 +77,13 @@ pub fn encode(buf: &mut [u8], at: usize, r: Refcount)
 pub fn good(r: Refcount) -> bool
     ensures { λ t. ⌜ t ≡ good r ⌝ }
 {
-    if 0x8000_0000 < (r.startblock % COW_FLAG) as u64 + r.blockcount as u64 {
+    if END_LIMIT < r.end() {
         return false;
     }
     if r.blockcount == 0 {
         return false;
     }
-    if COW_FLAG <= r.startblock {
+    if r.is_staging() {
         return r.refcount == 1;
     }
     2 <= r.refcount
@@ -66,25 +93,24 @@ pub fn good(r: Refcount) -> bool
 pub fn follows(q: Refcount, r: Refcount) -> bool
     ensures { λ t. ⌜ t ≡ follows q r ⌝ }
 {
-    let end = (q.startblock % COW_FLAG) as u64 + q.blockcount as u64;
-    let block = (r.startblock % COW_FLAG) as u64;
-    if COW_FLAG <= q.startblock {
-        if r.startblock < COW_FLAG {
-            return false;
+    let apart = q.end() <= r.block() as u64;
+    if q.is_staging() {
+        if r.is_staging() {
+            return apart;
         }
-        return end <= block;
+        return false;
     }
-    if COW_FLAG <= r.startblock {
+    if r.is_staging() {
         return true;
     }
-    end <= block
+    apart
 }
 
 // Are the records of the list good and in order?
 fn accepted(list: &[u8]) -> bool
     ensures { λ t. ⌜ t ≡ accepted (recordsOf refcounts (now (list .entry))) ⌝ }
 {
-    let n = list.len() / RECORD;
+    let n = list.len() / REFCOUNT_LEN;
     let mut prev = Refcount {
         startblock: 0,
         blockcount: 0,
@@ -92,7 +118,7 @@ fn accepted(list: &[u8]) -> bool
     };
     let mut i = 0;
     while i < n {
-        let r = decode(list, i * RECORD);
+        let r = decode(list, i * REFCOUNT_LEN);
         if !good(r) {
             return false;
         }
@@ -109,11 +135,11 @@ fn accepted(list: &[u8]) -> bool
 pub fn check_order(list: &[u8]) -> ListChecked
     ensures { λ r. ⌜ listOutcome r ≡ checkOrder (now (list .entry)) ⌝ }
 {
-    if list.len() % RECORD != 0 {
+    if list.len() % REFCOUNT_LEN != 0 {
         return ListChecked::Refused(ListRefusal::Length);
     }
     if !accepted(list) {
         return ListChecked::Refused(ListRefusal::RefcountOrder);
     }
-    ListChecked::Accepted(list.len() / RECORD)
+    ListChecked::Accepted(list.len() / REFCOUNT_LEN)
 }

@@ -4,8 +4,9 @@ ghost use Prim.Native.Nat.{_+_, _≤_};
 ghost use lib.ListN.{length};
 ghost use Rattle.codec.specs.Bytes.{bytesAt, withBytes};
 ghost use Rattle.codec.specs.Records.{recordsOf, rmaps};
-ghost use Rattle.codec.specs.Rmaps.{exempt, keyOffset, before, good, accepted, checkOrder};
+ghost use Rattle.codec.specs.Rmaps.{end, fileOffset, flags, reserved, exempt, keyOffset, before, good, accepted, checkOrder};
 ghost use Rattle.codec.specs.ListRefusal.{listOutcome};
+use crate::check::END_LIMIT;
 use crate::check::ListChecked;
 use crate::check::ListRefusal;
 use crate::endian::be32;
@@ -24,23 +25,53 @@ pub struct Rmap {
 }
 
 // The bytes of a record.
-const RECORD: usize = 24;
+pub const RMAP_LEN: usize = 24;
 
 // The first owner that is reserved.
-const RESERVED: u64 = 0x8000_0000_0000_0000;
+pub const RESERVED: u64 = 0x8000_0000_0000_0000;
 
 // Bit 62 of the offset, which marks a block of an inode's own map, and bit 61, which marks an extent never written.
-const OFF_BMBT_BLOCK: u64 = 0x4000_0000_0000_0000;
+pub const OFF_BMBT_BLOCK: u64 = 0x4000_0000_0000_0000;
 
-const OFF_UNWRITTEN: u64 = 0x2000_0000_0000_0000;
+pub const OFF_UNWRITTEN: u64 = 0x2000_0000_0000_0000;
 
 // One more than the largest file offset.
-const OFF_LIMIT: u64 = 0x40_0000_0000_0000;
+pub const OFF_LIMIT: u64 = 0x40_0000_0000_0000;
+
+impl Rmap {
+    // One more than its last block.
+    pub fn end(self) -> u64
+        ensures { λ n. ⌜ n ≡ end self ⌝ }
+    {
+        self.startblock as u64 + self.blockcount as u64
+    }
+
+    // Bits 0 to 53 of the offset.
+    pub fn file_offset(self) -> u64
+        ensures { λ n. ⌜ n ≡ fileOffset self ⌝ }
+    {
+        self.offset % OFF_LIMIT
+    }
+
+    // The bits above them.
+    pub fn flags(self) -> u64
+        ensures { λ n. ⌜ n ≡ flags self ⌝ }
+    {
+        self.offset / OFF_LIMIT
+    }
+
+    // Is its owner no inode?
+    pub fn is_reserved(self) -> bool
+        ensures { λ t. ⌜ t ≡ reserved (self .owner) ⌝ }
+    {
+        RESERVED <= self.owner
+    }
+}
 
 // The record at `at` bytes into `buf`.
 pub fn decode(buf: &[u8], at: usize) -> Rmap
-    requires { ⌜ at + 24 ≤ length (now buf) ⌝ }
-    ensures { λ r. ⌜ r ≡ rmaps .decode (bytesAt (now (buf .entry)) at 24) ⌝ }
+    requires { ⌜ at + rmaps .size ≤ length (now buf) ⌝ }
+    ensures { λ r. ⌜ r ≡ rmaps .decode (bytesAt (now (buf .entry)) at (rmaps .size)) ⌝ }
 {
     Rmap {
         startblock: be32(buf, at),
@@ -52,7 +83,7 @@ pub fn decode(buf: &[u8], at: usize) -> Rmap
 
 // `r` written at `at` bytes into `buf`.
 pub fn encode(buf: &mut [u8], at: usize, r: Rmap)
-    requires { ⌜ at + 24 ≤ length (now buf) ⌝ }
+    requires { ⌜ at + rmaps .size ≤ length (now buf) ⌝ }
     ensures { λ _. ⌜ now (buf .exit) ≡ withBytes (now (buf .entry)) at (rmaps .encode r) ⌝ }
 {
     put_be32(buf, at, r.startblock);
@@ -65,7 +96,7 @@ pub fn encode(buf: &mut [u8], at: usize, r: Rmap)
 pub fn exempt(r: Rmap) -> bool
     ensures { λ t. ⌜ t ≡ exempt r ⌝ }
 {
-    if RESERVED <= r.owner {
+    if r.is_reserved() {
         return true;
     }
     r.offset / OFF_BMBT_BLOCK % 2 == 1
@@ -78,10 +109,10 @@ pub fn good(r: Rmap) -> bool
     if r.blockcount == 0 {
         return false;
     }
-    if 0x8000_0000 < r.startblock as u64 + r.blockcount as u64 {
+    if END_LIMIT < r.end() {
         return false;
     }
-    if r.offset % OFF_LIMIT + r.blockcount as u64 <= OFF_LIMIT {
+    if r.file_offset() + r.blockcount as u64 <= OFF_LIMIT {
         return true;
     }
     exempt(r)
@@ -111,7 +142,7 @@ pub fn comes_before(r: Rmap, s: Rmap) -> bool
 fn accepted(list: &[u8]) -> bool
     ensures { λ t. ⌜ t ≡ accepted (recordsOf rmaps (now (list .entry))) ⌝ }
 {
-    let n = list.len() / RECORD;
+    let n = list.len() / RMAP_LEN;
     let mut prev = Rmap {
         startblock: 0,
         blockcount: 0,
@@ -120,7 +151,7 @@ fn accepted(list: &[u8]) -> bool
     };
     let mut i = 0;
     while i < n {
-        let r = decode(list, i * RECORD);
+        let r = decode(list, i * RMAP_LEN);
         if !good(r) {
             return false;
         }
@@ -137,11 +168,11 @@ fn accepted(list: &[u8]) -> bool
 pub fn check_order(list: &[u8]) -> ListChecked
     ensures { λ r. ⌜ listOutcome r ≡ checkOrder (now (list .entry)) ⌝ }
 {
-    if list.len() % RECORD != 0 {
+    if list.len() % RMAP_LEN != 0 {
         return ListChecked::Refused(ListRefusal::Length);
     }
     if !accepted(list) {
         return ListChecked::Refused(ListRefusal::RmapOrder);
     }
-    ListChecked::Accepted(list.len() / RECORD)
+    ListChecked::Accepted(list.len() / RMAP_LEN)
 }

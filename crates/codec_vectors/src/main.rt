@@ -9,7 +9,7 @@ use codec::refcount;
 use codec::refcount::Refcount;
 use codec::rmap;
 use codec::rmap::Rmap;
-use show::lines::list_number;
+use show::lines::show_told;
 use show::lines::words;
 
 // A name, and a number in decimal.
@@ -34,7 +34,9 @@ fn answer(name: &[u8], r: ListChecked) {
     io::write_all(1, name);
     match r {
         ListChecked::Accepted(n) => number(b" accepted ", n as u64),
-        ListChecked::Refused(e) => number(b" refused ", list_number(e)),
+        ListChecked::Refused(e) => {
+            show_told(e.told());
+        }
     }
     newline();
 }

@@ -13,9 +13,8 @@ use Rattle.codec.specs.declared.rmap.Rmap.{Rmap}
 use Rattle.codec.specs.declared.refcount.Refcount.{Refcount}
 use Rattle.lists.specs.Extent.{over, within, runs}
 use Rattle.lists.specs.Holders.{holders}
-use Rattle.lists.specs.Release.{owners, stop, unshared}
+use Rattle.lists.specs.Release.{owners, stop, fewer, unshared}
 use Rattle.lists.proofs.Cases.{split, tests, conj, not-false, within-in, within-right, over-facts, within-over, within-not}
-use Rattle.lists.specs.Passes.{fewer}
 use Rattle.lists.proofs.Counts.{From, Accepted, owners-left, kind-owners}
 use Rattle.lists.proofs.Raising.{another}
 use Rattle.lists.proofs.Runs.{runs-same}

@@ -8,12 +8,12 @@ use lib.ListN.{length, replicate}
 use lib.ListN as bytes
 use Rattle.codec.specs.Bytes as bytes-in
 use Rattle.codec.specs.Bytes.{withBytes}
-use Rattle.codec.specs.Question.{Outcome, done, refused, mapOutcome}
+use Rattle.codec.specs.Question.{Outcome, done, refused, Question, ask, answer, mapOutcome}
 use Rattle.codec.specs.Accepted as accepted
 use Rattle.codec.specs.Rmaps as rmap
 use Rattle.codec.specs.Refcounts as refcount
 use Rattle.codec.specs.Records as records
-use Rattle.codec.specs.Records.{Kind, bytesOf, RmapFits, rmaps, refcounts, freeExtents}
+use Rattle.codec.specs.Records.{Kind, recordsOf, bytesOf, RmapFits, rmaps, refcounts, freeExtents}
 use Rattle.codec.specs.declared.rmap.Rmap.{Rmap}
 use Rattle.lists.specs.Extent as blocks
 use Rattle.lists.specs.Holders as holding
@@ -25,18 +25,16 @@ use Rattle.lists.specs.declared.Edited.{Edited}
 use Rattle.lists.specs.declared.Edited.the-variants as edited
 use Rattle.lists.specs.Edits.{insertOutcome, written}
 use Rattle.lists.specs.Answer.{EditIs}
+use Rattle.lists.proofs.Cases.{split}
 use Rattle.lists.proofs.Laws.{written-front}
 use Rattle.groups.specs.declared.Sizes.{Sizes}
-use Rattle.groups.specs.declared.BothSizes.{BothSizes}
-use Rattle.groups.specs.declared.LetGone.{LetGone}
-use Rattle.groups.specs.declared.LetGone.the-variants as gone
-use Rattle.groups.specs.declared.TakenHeld.{TakenHeld}
-use Rattle.groups.specs.declared.TakenHeld.the-variants as taken
-use Rattle.groups.specs.LetGo.{Gone, letGoOutcome}
-use Rattle.groups.specs.Answer.{sizesOf, GoneIs}
-use Rattle.groups.specs.TakeHeld.{Both, takeHeldOutcome}
-use Rattle.groups.specs.TakeHeldAnswer.{bothSizesOf, BothIs}
-use Rattle.groups.specs.History.{Lists, Accepted, Agreeing, Left, took, tookHeld, went, step, after, run, Start}
+use Rattle.groups.specs.declared.GroupEdited.{GroupEdited}
+use Rattle.groups.specs.declared.GroupEdited.the-variants as both
+use Rattle.groups.specs.Joint.{NewLists, fitAll}
+use Rattle.groups.specs.LetGo.{letGoOutcome}
+use Rattle.groups.specs.TakeHeld.{raising, takeHeldQuestions, takeHeldOutcome}
+use Rattle.groups.specs.Answer.{sizes, sizesOf, freeOf, GroupEditIs}
+use Rattle.groups.specs.History.{Lists, Accepted, Agreeing, Left, took, changed, step, after, run, Start}
 use Rattle.groups.specs.Calls.{Buffer, Call, Tied, inserting, takingHeld, lettingGo, front, listsOf, onward, offeredBytes, offered, EveryCall, AllPromised, changesOf, onwards, EveryCalls}
 use Rattle.groups.proofs.Example.{record-of, free-at, small-fits, none-held, first-lists, shared-lists, last-lists}
 use Rattle.groups.proofs.History.{history}
@@ -62,31 +60,54 @@ inserted σ x fits (edited.Done n) new (refused m v) p = let e = p .said in let 
 inserted σ x fits (edited.Refused q) new (done rs) p = let e = p .said in let z : _≡_ {A = ℕ} 0 1 = cc in absurd (omega arith)
 inserted σ x fits (edited.Refused q) new (refused m v) p = (refl, refl)
 
-taken-held : (σ : Lists) (x : Rmap) (fits : RmapFits x) (r : TakenHeld) (map counts : Buffer) (o : Outcome Both)
-    → BothIs o r (map .entry) (map .exit) (counts .entry) (counts .exit)
-    → Leaves σ (takingHeld x fits r map counts) (mapOutcome tookHeld o)
-unfolding after bytesOf
-taken-held σ x fits (taken.Done n) map counts (done g) p =
-    let e : done n ≡ bothSizesOf (done g) = p .said in
-    let q : n ≡ record { map = length (bytesOf rmaps (g .map)); counts = length (bytesOf refcounts (g .counts)) } = cc in
-    (ap₂ listsOf (front-is rmaps map (g .map) (n .map) (ap (λ (s : BothSizes). s .map) q) (p .map)) (front-is refcounts counts (g .counts) (n .counts) (ap (λ (s : BothSizes). s .counts) q) (p .counts)), refl)
-taken-held σ x fits (taken.Done n) map counts (refused m v) p = let e = p .said in let z : _≡_ {A = ℕ} 0 1 = cc in absurd (omega arith)
-taken-held σ x fits (taken.Refused q) map counts (done g) p = let e = p .said in let z : _≡_ {A = ℕ} 0 1 = cc in absurd (omega arith)
-taken-held σ x fits (taken.Refused q) map counts (refused m v) p = (refl, refl)
-
-let-gone : (σ : Lists) (x : Rmap) (r : LetGone) (kept lowered free : Buffer) (o : Outcome Gone)
-    → GoneIs o r (kept .entry) (kept .exit) (lowered .entry) (lowered .exit) (free .entry) (free .exit)
-    → Leaves σ (lettingGo x r kept lowered free) (mapOutcome went o)
-unfolding after bytesOf
-let-gone σ x (gone.Done n) kept lowered free (done g) p =
+-- the new lists of an edit of both: an edit that is done hands them on, with the first bytes of what was lent for free extents
+both-new : (n : Sizes) (map counts free : Buffer) (g : NewLists)
+    → GroupEditIs (done g) (both.Done n) (map .entry) (map .exit) (counts .entry) (counts .exit) (free .entry) (free .exit)
+    → (listsOf (front (n .map) map) (front (n .counts) counts) ≡ changed g .lists) × (front (n .free) free ≡ bytesOf freeExtents (g .free))
+both-new n map counts free g p =
     let e : done n ≡ sizesOf (done g) = p .said in
-    let q : n ≡ record { map = length (bytesOf rmaps (g .map)); counts = length (bytesOf refcounts (g .counts)); free = length (bytesOf freeExtents (g .free)) } = cc in (
-      ap₂ listsOf (front-is rmaps kept (g .map) (n .map) (ap (λ (s : Sizes). s .map) q) (p .map)) (front-is refcounts lowered (g .counts) (n .counts) (ap (λ (s : Sizes). s .counts) q) (p .counts)),
-      front-is freeExtents free (g .free) (n .free) (ap (λ (s : Sizes). s .free) q) (p .extents),
+    let q : n ≡ sizes g = cc in (
+      ap₂ listsOf (front-is rmaps map (g .map) (n .map) (ap (λ (s : Sizes). s .map) q) (p .map-is)) (front-is refcounts counts (g .counts) (n .counts) (ap (λ (s : Sizes). s .counts) q) (p .counts-are)),
+      front-is freeExtents free (g .free) (n .free) (ap (λ (s : Sizes). s .free) q) (p .free-are),
     )
-let-gone σ x (gone.Done n) kept lowered free (refused m v) p = let e = p .said in let z : _≡_ {A = ℕ} 0 1 = cc in absurd (omega arith)
-let-gone σ x (gone.Refused q) kept lowered free (done g) p = let e = p .said in let z : _≡_ {A = ℕ} 0 1 = cc in absurd (omega arith)
-let-gone σ x (gone.Refused q) kept lowered free (refused m v) p = (refl, refl)
+
+-- nothing was lent for free extents
+abbrev unlent : Buffer
+unlent = record { entry = []; exit = [] }
+
+-- and nothing is free again
+abbrev FreesNone : Outcome NewLists → Type 0
+FreesNone o = freeOf o ≡ mapOutcome (λ g. []) o
+
+frees-none : (qs : List Question) (g : NewLists) → g .free ≡ [] → FreesNone (answer qs (done g))
+frees-none [] g e = ap done e
+frees-none (q ∷ qs) g e = split (q .holds) (λ h. rw h (frees-none qs g e)) (λ h. rw h refl)
+
+take-frees-none : (map counts : List ℕ) (x : Rmap) (room countsRoom : ℕ) → FreesNone (takeHeldOutcome map counts x room countsRoom)
+unfolding takeHeldOutcome
+take-frees-none map counts x room countsRoom =
+    let g : NewLists = raising x (recordsOf rmaps map) (recordsOf refcounts counts) in
+    frees-none (takeHeldQuestions map counts x ++ (ask 26 (fitAll g room countsRoom 0) ∷ [])) g refl
+
+taken-held : (σ : Lists) (x : Rmap) (fits : RmapFits x) (r : GroupEdited) (map counts : Buffer) (o : Outcome NewLists) → FreesNone o
+    → GroupEditIs o r (map .entry) (map .exit) (counts .entry) (counts .exit) [] []
+    → Leaves σ (takingHeld x fits r map counts) (mapOutcome changed o)
+unfolding after bytesOf
+taken-held σ x fits (both.Done n) map counts (done g) f p =
+    let z : g .free ≡ [] = cc in
+    (both-new n map counts unlent g p .0, rw z refl)
+taken-held σ x fits (both.Done n) map counts (refused m v) f p = let e = p .said in let z : _≡_ {A = ℕ} 0 1 = cc in absurd (omega arith)
+taken-held σ x fits (both.Refused q) map counts (done g) f p = let e = p .said in let z : _≡_ {A = ℕ} 0 1 = cc in absurd (omega arith)
+taken-held σ x fits (both.Refused q) map counts (refused m v) f p = (refl, refl)
+
+let-gone : (σ : Lists) (x : Rmap) (r : GroupEdited) (kept lowered free : Buffer) (o : Outcome NewLists)
+    → GroupEditIs o r (kept .entry) (kept .exit) (lowered .entry) (lowered .exit) (free .entry) (free .exit)
+    → Leaves σ (lettingGo x r kept lowered free) (mapOutcome changed o)
+unfolding after bytesOf
+let-gone σ x (both.Done n) kept lowered free (done g) p = both-new n kept lowered free g p
+let-gone σ x (both.Done n) kept lowered free (refused m v) p = let e = p .said in let z : _≡_ {A = ℕ} 0 1 = cc in absurd (omega arith)
+let-gone σ x (both.Refused q) kept lowered free (done g) p = let e = p .said in let z : _≡_ {A = ℕ} 0 1 = cc in absurd (omega arith)
+let-gone σ x (both.Refused q) kept lowered free (refused m v) p = (refl, refl)
 
 -- ---- the claims
 
@@ -96,7 +117,8 @@ every-call σ (inserting x fits r new) p =
     let k = inserted σ x fits r new (insertOutcome (σ .map) x (length (new .entry))) p in
     record { lists = k .0; free = k .1 }
 every-call σ (takingHeld x fits r map counts) p =
-    let k = taken-held σ x fits r map counts (takeHeldOutcome (σ .map) (σ .counts) x (length (map .entry)) (length (counts .entry))) p in
+    let o : Outcome NewLists = takeHeldOutcome (σ .map) (σ .counts) x (length (map .entry)) (length (counts .entry)) in
+    let k = taken-held σ x fits r map counts o (take-frees-none (σ .map) (σ .counts) x (length (map .entry)) (length (counts .entry))) p in
     record { lists = k .0; free = k .1 }
 every-call σ (lettingGo x r kept lowered free) p =
     let k = let-gone σ x r kept lowered free (letGoOutcome (σ .map) (σ .counts) x (length (kept .entry)) (length (lowered .entry)) (length (free .entry))) p in
@@ -123,20 +145,25 @@ first-call = inserting (record-of 0 4 7 0) (small-fits 0 4 7 0 (omega arith)) (e
 
 abbrev second-call : Call
 second-call =
-    takingHeld (record-of 1 2 9 0) (small-fits 1 2 9 0 (omega arith)) (taken.Done (record { map = 48; counts = 12 })) (lent (shared-lists .map) 1) (lent (shared-lists .counts) 3)
+    takingHeld (record-of 1 2 9 0) (small-fits 1 2 9 0 (omega arith)) (both.Done (record { map = 48; counts = 12; free = 0 })) (lent (shared-lists .map) 1) (lent (shared-lists .counts) 3)
 
 abbrev fourth-call : Call
 fourth-call =
-    lettingGo (record-of 0 4 7 0) (gone.Done (record { map = 24; counts = 0; free = 16 })) (lent (last-lists .map) 0) (lent (last-lists .counts) 5)
+    lettingGo (record-of 0 4 7 0) (both.Done (record { map = 24; counts = 0; free = 16 })) (lent (last-lists .map) 0) (lent (last-lists .counts) 5)
     (lent (bytesOf freeExtents (free-at 0 1 ∷ free-at 3 1 ∷ [])) 4)
 
 abbrev calls : List Call
 calls = first-call ∷ second-call ∷ fourth-call ∷ []
 
 all-promised : AllPromised none-held calls
-unfolding none-held insertOutcome takeHeldOutcome letGoOutcome bytes-in.beOf bytes-in.beBytes records.fieldsOf records.fieldBytes records.firstRecords records.recordsOf records.bytesOf accepted.whole accepted.inOrder rmap.reserved rmap.mapping rmap.exempt rmap.good rmap.keyOffset rmap.before rmap.follows refcount.staging refcount.good refcount.follows blocks.over blocks.within blocks.grow blocks.runs holding.holders held.eachBlock edits.first edits.isSome edits.replace edits.place edits.continues edits.overlaps edits.attach edits.insertAfter edits.insert edits.clash edits.behind edits.ahead edits.contains edits.linesUp edits.chosen edits.front edits.later edits.placeLater edits.cutOut release.owners release.clear release.piece release.middle release.clamp release.lowered release.lowerAll release.alike release.continues release.joinFrom release.joinAll raise.raised raise.raiseAll raise.full raise.ownersFit written withBytes
-all-promised =
-    (record { said = refl; wrote = refl }, (record { said = refl; map = refl; counts = refl }, (record { said = refl; map = refl; counts = refl; extents = refl }, tt)))
+unfolding none-held insertOutcome takeHeldOutcome letGoOutcome bytes-in.beOf bytes-in.beBytes records.fieldsOf records.fieldBytes records.firstRecords records.recordsOf records.bytesOf accepted.whole accepted.inOrder rmap.reserved rmap.mapping rmap.exempt rmap.good rmap.keyOffset rmap.before rmap.follows refcount.staging refcount.good refcount.follows blocks.over blocks.within blocks.grow blocks.runs holding.holders held.eachBlock edits.first edits.isSome edits.replace edits.place edits.continues edits.overlaps edits.attach edits.insertAfter edits.insert edits.clash edits.behind edits.ahead edits.contains edits.linesUp edits.chosen edits.front edits.later edits.placeLater edits.cutOut release.owners release.clear release.piece release.share release.fewer release.clamp release.lowered release.lowerAll release.sameKind release.continues release.joinFrom release.joinAll raise.raised raise.raiseAll raise.full raise.ownersFit written withBytes
+all-promised = (
+  record { said = refl; wrote = refl },
+  (
+    record { said = refl; map-is = refl; counts-are = refl; free-are = refl },
+    (record { said = refl; map-is = refl; counts-are = refl; free-are = refl }, tt),
+  ),
+)
 
 pub first-tied : Tied none-held first-call
 first-tied = every-call none-held first-call (all-promised .0)

@@ -90,7 +90,7 @@ pub record Shares : Type 0 where
   pub left : run none-held sharing ≡ last-lists
 
 pub shares : Shares
-unfolding none-held run after step insertOutcome insertSharedOutcome takeHeldOutcome letGoOutcome bytes.beOf bytes.beBytes records.fieldsOf records.fieldBytes records.firstRecords records.recordsOf records.bytesOf accepted.whole accepted.inOrder rmap.reserved rmap.mapping rmap.exempt rmap.good rmap.keyOffset rmap.before rmap.follows refcount.staging refcount.good refcount.follows blocks.over blocks.within blocks.grow blocks.runs holding.holders held.eachBlock edits.first edits.isSome edits.replace edits.place edits.continues edits.overlaps edits.attach edits.insertAfter edits.insert edits.clash edits.behind edits.ahead edits.contains edits.linesUp edits.chosen edits.front edits.later edits.placeLater edits.cutOut release.owners release.clear release.piece release.middle release.clamp release.lowered release.lowerAll release.alike release.continues release.joinFrom release.joinAll raise.raised raise.raiseAll raise.full raise.ownersFit
+unfolding none-held run after step insertOutcome insertSharedOutcome takeHeldOutcome letGoOutcome bytes.beOf bytes.beBytes records.fieldsOf records.fieldBytes records.firstRecords records.recordsOf records.bytesOf accepted.whole accepted.inOrder rmap.reserved rmap.mapping rmap.exempt rmap.good rmap.keyOffset rmap.before rmap.follows refcount.staging refcount.good refcount.follows blocks.over blocks.within blocks.grow blocks.runs holding.holders held.eachBlock edits.first edits.isSome edits.replace edits.place edits.continues edits.overlaps edits.attach edits.insertAfter edits.insert edits.clash edits.behind edits.ahead edits.contains edits.linesUp edits.chosen edits.front edits.later edits.placeLater edits.cutOut release.owners release.clear release.piece release.share release.fewer release.clamp release.lowered release.lowerAll release.sameKind release.continues release.joinFrom release.joinAll raise.raised raise.raiseAll raise.full raise.ownersFit
 shares = record { taken = refl; taken-held = refl; not-taken = refl; shared-takes = refl; let-go = refl; not-let-go = refl; left = refl }
 
 -- ---- the premises are met

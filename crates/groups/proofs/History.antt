@@ -22,9 +22,10 @@ use Rattle.lists.specs.Edits.{insertOutcome}
 use Rattle.lists.proofs.Counts as C
 use Rattle.lists.proofs.Longest.{longest-runs}
 use Rattle.lists.proofs.Laws.{Taken, insert-law, insert-unheld}
-use Rattle.groups.specs.LetGo.{Gone, letGoOutcome}
-use Rattle.groups.specs.TakeHeld.{Both, takeHeldOutcome}
-use Rattle.groups.specs.History.{Lists, Accepted, Agreeing, held, Change, take, takeHeld, letGo, Left, took, tookHeld, went, step, after, covered, taken, gone, run, takes, letsGo, Claim, EveryHistory}
+use Rattle.groups.specs.Joint.{NewLists}
+use Rattle.groups.specs.LetGo.{letGoOutcome}
+use Rattle.groups.specs.TakeHeld.{takeHeldOutcome}
+use Rattle.groups.specs.History.{Lists, Accepted, Agreeing, held, Change, take, takeHeld, letGo, Left, took, changed, step, after, covered, taken, gone, run, takes, letsGo, Claim, EveryHistory}
 use Rattle.groups.proofs.Agreement.{agree-letGo, agree-take, agree-raise, unshared-unheld}
 use Rattle.groups.proofs.Letting.{letGo-law}
 use Rattle.groups.proofs.TakingAll.{takeHeld-law}
@@ -101,9 +102,9 @@ kept-take σ x m h a t f =
 
 -- ---- a take of held blocks
 
-kept-takeHeld : (σ : Lists) (x : Rmap) (room countsRoom : ℕ) (g : Both) → Accepted σ → Agreeing σ → RmapFits x
+kept-takeHeld : (σ : Lists) (x : Rmap) (room countsRoom : ℕ) (g : NewLists) → Accepted σ → Agreeing σ → RmapFits x
     → takeHeldOutcome (σ .map) (σ .counts) x room countsRoom ≡ done g
-    → Kept σ (within (x .startblock) (x .blockcount) 1) (λ b. 0) (tookHeld g .lists)
+    → Kept σ (within (x .startblock) (x .blockcount) 1) (λ b. 0) (changed g .lists)
 kept-takeHeld σ x room countsRoom g h a f e =
     let m : List Rmap = recordsOf rmaps (σ .map) in
     let c : List Refcount = recordsOf refcounts (σ .counts) in
@@ -124,10 +125,10 @@ kept-takeHeld σ x room countsRoom g h a f e =
 
 -- ---- a let go
 
-kept-letGo : (σ : Lists) (x : Rmap) (room countsRoom freeRoom : ℕ) (g : Gone) → Accepted σ → Agreeing σ
+kept-letGo : (σ : Lists) (x : Rmap) (room countsRoom freeRoom : ℕ) (g : NewLists) → Accepted σ → Agreeing σ
     → letGoOutcome (σ .map) (σ .counts) x room countsRoom freeRoom ≡ done g
-    → Kept σ (λ b. 0) (within (x .startblock) (x .blockcount) 1) (went g .lists)
-    × (g .free ≡ runs (λ b. eqb (held (went g .lists) b) 0) (x .startblock) (x .blockcount))
+    → Kept σ (λ b. 0) (within (x .startblock) (x .blockcount) 1) (changed g .lists)
+    × (g .free ≡ runs (λ b. eqb (held (changed g .lists) b) 0) (x .startblock) (x .blockcount))
 kept-letGo σ x room countsRoom freeRoom g h a e =
     let m : List Rmap = recordsOf rmaps (σ .map) in
     let c : List Refcount = recordsOf refcounts (σ .counts) in
@@ -166,16 +167,16 @@ unfolding covered after
 took-kept σ x room (done m) h a f e = kept-take σ x m h a (insert-law (σ .map) x room m (h .map-bytes) f e) (insert-unheld (σ .map) x room m e)
 took-kept σ x room (refused n v) h a f e = kept-same σ h a
 
-held-kept : (σ : Lists) (x : Rmap) (room countsRoom : ℕ) (o : Outcome Both) → Accepted σ → Agreeing σ → RmapFits x
+held-kept : (σ : Lists) (x : Rmap) (room countsRoom : ℕ) (o : Outcome NewLists) → Accepted σ → Agreeing σ → RmapFits x
     → takeHeldOutcome (σ .map) (σ .counts) x room countsRoom ≡ o
-    → Kept σ (covered (mapOutcome tookHeld o) x) (λ b. 0) (after σ (mapOutcome tookHeld o))
+    → Kept σ (covered (mapOutcome changed o) x) (λ b. 0) (after σ (mapOutcome changed o))
 unfolding covered after
 held-kept σ x room countsRoom (done g) h a f e = kept-takeHeld σ x room countsRoom g h a f e
 held-kept σ x room countsRoom (refused n v) h a f e = kept-same σ h a
 
-went-kept : (σ : Lists) (x : Rmap) (room countsRoom freeRoom : ℕ) (o : Outcome Gone) → Accepted σ → Agreeing σ
+went-kept : (σ : Lists) (x : Rmap) (room countsRoom freeRoom : ℕ) (o : Outcome NewLists) → Accepted σ → Agreeing σ
     → letGoOutcome (σ .map) (σ .counts) x room countsRoom freeRoom ≡ o
-    → Kept σ (λ b. 0) (covered (mapOutcome went o) x) (after σ (mapOutcome went o))
+    → Kept σ (λ b. 0) (covered (mapOutcome changed o) x) (after σ (mapOutcome changed o))
 unfolding covered after
 went-kept σ x room countsRoom freeRoom (done g) h a e = kept-letGo σ x room countsRoom freeRoom g h a e .0
 went-kept σ x room countsRoom freeRoom (refused n v) h a e = kept-same σ h a
@@ -194,10 +195,10 @@ step-offers : (σ : Lists) (x : Rmap) (room countsRoom freeRoom : ℕ) → Accep
     → Longest (λ b. eqb (held (w .lists) b) 0) (x .startblock) (x .blockcount) (w .free)
 unfolding step
 step-offers σ x room countsRoom freeRoom h a w e =
-    let k = from-done went (letGoOutcome (σ .map) (σ .counts) x room countsRoom freeRoom) w e in
+    let k = from-done changed (letGoOutcome (σ .map) (σ .counts) x room countsRoom freeRoom) w e in
     subst (λ (w : Left). Longest (λ b. eqb (held (w .lists) b) 0) (x .startblock) (x .blockcount) (w .free)) (k .2)
     (rw (kept-letGo σ x room countsRoom freeRoom (k .0) h a (k .1) .1)
-    (longest-runs (λ b. eqb (held (went (k .0) .lists) b) 0) (x .startblock) (x .blockcount)))
+    (longest-runs (λ b. eqb (held (changed (k .0) .lists) b) 0) (x .startblock) (x .blockcount)))
 
 -- ---- the whole list
 

@@ -17,7 +17,8 @@ use Rattle.lists.specs.Release.{unshared}
 use Rattle.lists.proofs.Cases.{split}
 use Rattle.lists.proofs.RmapOrder.{good-facts}
 use Rattle.lists.proofs.Laws.{GivenUp, remove-gives, LetGo, release-lets}
-use Rattle.groups.specs.LetGo.{Gone, letting, bothQuestions, fitAll, letGoOutcome}
+use Rattle.groups.specs.Joint.{NewLists, fitAll}
+use Rattle.groups.specs.LetGo.{letting, letGoQuestions, letGoOutcome}
 
 -- ---- the last question of a call
 
@@ -35,17 +36,17 @@ last-holds n v (p ∷ qs) q x o e =
     (λ h. let f : refused (p .number) (p .values) ≡ refused n v = rw h at e in absurd (o .0 cc))
 
 module _ (map counts : List ℕ) (x : Rmap) (room countsRoom freeRoom : ℕ) where
-  abbrev g : Gone
+  abbrev g : NewLists
   g = letting x (recordsOf rmaps map) (recordsOf refcounts counts)
 
   abbrev room-question : Question
   room-question = ask 26 (fitAll g room countsRoom freeRoom)
 
   -- a lack of room is told only where every other question holds
-  pub room-last : (v : Values) → letGoOutcome map counts x room countsRoom freeRoom ≡ refused 26 v → AllHold (bothQuestions map counts x)
+  pub room-last : (v : Values) → letGoOutcome map counts x room countsRoom freeRoom ≡ refused 26 v → AllHold (letGoQuestions map counts x)
   unfolding letGoOutcome
   room-last v e =
-      last-holds 26 v (bothQuestions map counts x) room-question g (
+      last-holds 26 v (letGoQuestions map counts x) room-question g (
         λ h. omega arith,
         (λ h. omega arith, (λ h. omega arith, (λ h. omega arith, (λ h. omega arith, (λ h. omega arith, (λ h. omega arith, tt)))))),
       )
@@ -53,15 +54,15 @@ module _ (map counts : List ℕ) (x : Rmap) (room countsRoom freeRoom : ℕ) whe
 
   -- ---- what an accepted letting go leaves
 
-  pub record Went (w : Gone) : Type 0 where
+  pub record Went (w : NewLists) : Type 0 where
     pub map-after : GivenUp x (recordsOf rmaps map) (w .map)
     pub counts-after : LetGo (x .startblock) (x .blockcount) (recordsOf refcounts counts) (w .counts) (w .free)
     pub free-is : w .free ≡ unshared (recordsOf refcounts counts) (x .startblock) (x .blockcount)
 
-  pub letGo-law : (w : Gone) → IsBytes map → IsBytes counts → letGoOutcome map counts x room countsRoom freeRoom ≡ done w → Went w
+  pub letGo-law : (w : NewLists) → IsBytes map → IsBytes counts → letGoOutcome map counts x room countsRoom freeRoom ≡ done w → Went w
   unfolding letGoOutcome
   letGo-law w hm hc e =
-      let k = done-means (bothQuestions map counts x ++ (room-question ∷ [])) g w e in
+      let k = done-means (letGoQuestions map counts x ++ (room-question ∷ [])) g w e in
       let q = k .0 in
       let good : rmap.good x ≡ true = q .1 .1 .0 in
       let h = good-facts x good in

@@ -10,5 +10,6 @@ pub mod Calling
 pub mod Table
 pub mod Asking
 pub mod Measuring
+pub mod LettingGo
 pub mod HeldQuestions
 pub mod TakingHeld

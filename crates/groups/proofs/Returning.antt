@@ -14,10 +14,10 @@ use Rattle.blocks.specs.declared.kind.TreeKind.{TreeKind}
 use Rattle.blocks.specs.declared.kind.TreeKind.the-variants.{Rmap, Refcount}
 use Rattle.blocks.specs.Tree.{hasTree, recordLen}
 use Rattle.trees.specs.Plan.{sum}
-use Rattle.trees.specs.WalkCall.{Lent}
+use Rattle.walks.specs.WalkCall.{Lent}
 use Rattle.trees.specs.Build.{planOf}
 use Rattle.trees.specs.BuildCall.{ordered, builtBytes, buildOutcome}
-use Rattle.trees.specs.Shapes.{shapeOf}
+use Rattle.walks.specs.Shapes.{shapeOf}
 use Rattle.trees.specs.RoundTrip.{levelsFor}
 use Rattle.trees.proofs.BuiltReturned.{stored-returned}
 use Rattle.groups.specs.History.{Stored, Returned}

@@ -13,28 +13,29 @@ use Rattle.codec.proofs.ListBytes.{storable-recordsOf}
 use Rattle.lists.specs.Settled.{Settled}
 use Rattle.lists.proofs.RmapOrder.{good-facts}
 use Rattle.lists.proofs.Settling.{release-settles, raise-settles}
-use Rattle.groups.specs.LetGo.{Gone, letting, bothQuestions, fitAll, letGoOutcome}
-use Rattle.groups.specs.TakeHeld.{Both, raising, heldQuestions, fitBoth, takeHeldOutcome}
+use Rattle.groups.specs.Joint.{NewLists, fitAll}
+use Rattle.groups.specs.LetGo.{letting, letGoQuestions, letGoOutcome}
+use Rattle.groups.specs.TakeHeld.{raising, takeHeldQuestions, takeHeldOutcome}
 
 module _ (map counts : List ℕ) (x : Rmap) (small : IsBytes counts) where
-  pub letGo-settles : (room countsRoom freeRoom : ℕ) (w : Gone) → letGoOutcome map counts x room countsRoom freeRoom ≡ done w
+  pub letGo-settles : (room countsRoom freeRoom : ℕ) (w : NewLists) → letGoOutcome map counts x room countsRoom freeRoom ≡ done w
       → Settled (recordsOf refcounts counts) (w .counts)
   unfolding letGoOutcome
   letGo-settles room countsRoom freeRoom w e =
-      let g : Gone = letting x (recordsOf rmaps map) (recordsOf refcounts counts) in
-      let k = done-means (bothQuestions map counts x ++ (ask 26 (fitAll g room countsRoom freeRoom) ∷ [])) g w e in
+      let g : NewLists = letting x (recordsOf rmaps map) (recordsOf refcounts counts) in
+      let k = done-means (letGoQuestions map counts x ++ (ask 26 (fitAll g room countsRoom freeRoom) ∷ [])) g w e in
       let q = k .0 in
-      subst (λ (w : Gone). Settled (recordsOf refcounts counts) (w .counts)) (k .1)
+      subst (λ (w : NewLists). Settled (recordsOf refcounts counts) (w .counts)) (k .1)
       (release-settles (x .startblock) (x .blockcount) (recordsOf refcounts counts) (good-facts x (q .1 .1 .0) .1) (q .1 .1 .1 .1 .1 .0)
       (storable-recordsOf refcounts refcounts-lawful counts small))
 
-  pub takeHeld-settles : (room countsRoom : ℕ) (w : Both) → takeHeldOutcome map counts x room countsRoom ≡ done w
+  pub takeHeld-settles : (room countsRoom : ℕ) (w : NewLists) → takeHeldOutcome map counts x room countsRoom ≡ done w
       → Settled (recordsOf refcounts counts) (w .counts)
   unfolding takeHeldOutcome
   takeHeld-settles room countsRoom w e =
-      let g : Both = raising x (recordsOf rmaps map) (recordsOf refcounts counts) in
-      let k = done-means (heldQuestions map counts x ++ (ask 26 (fitBoth g room countsRoom) ∷ [])) g w e in
+      let g : NewLists = raising x (recordsOf rmaps map) (recordsOf refcounts counts) in
+      let k = done-means (takeHeldQuestions map counts x ++ (ask 26 (fitAll g room countsRoom 0) ∷ [])) g w e in
       let q = k .0 in
-      subst (λ (w : Both). Settled (recordsOf refcounts counts) (w .counts)) (k .1)
+      subst (λ (w : NewLists). Settled (recordsOf refcounts counts) (w .counts)) (k .1)
       (raise-settles (x .startblock) (x .blockcount) (recordsOf refcounts counts) (good-facts x (q .1 .1 .1 .1 .0) .1) (q .1 .1 .1 .0)
       (storable-recordsOf refcounts refcounts-lawful counts small))

@@ -18,8 +18,8 @@ use Rattle.blocks.specs.Tree as headers
 use Rattle.trees.specs.Plan as plan
 use Rattle.trees.specs.Plan.{sum}
 use Rattle.trees.specs.Build.{planOf}
-use Rattle.trees.specs.WalkCall.{Lent}
-use Rattle.trees.specs.Shapes.{shapeOf}
+use Rattle.walks.specs.WalkCall.{Lent}
+use Rattle.walks.specs.Shapes.{shapeOf}
 use Rattle.trees.specs.RoundTrip.{levelsFor, LongEnough}
 use Rattle.trees.proofs.BlockBytes.{zero-bytes}
 use Rattle.groups.specs.History.{Lists, Stored, Back, Returned}

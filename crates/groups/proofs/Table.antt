@@ -72,5 +72,5 @@ pub table :
     × (insertOutcome (bytesOf rmaps (seven 0 4 0 ∷ [])) (seven 4 4 5) 100 ≡ done (seven 0 4 0 ∷ seven 4 4 5 ∷ []))
     × (removeOutcome (bytesOf rmaps (seven 0 8 0 ∷ [])) (seven 2 3 2) 100 ≡ done (seven 0 2 0 ∷ seven 5 3 5 ∷ []))
     × (removeOutcome (bytesOf rmaps (seven 0 8 0 ∷ [])) (seven 2 3 9) 100 ≡ done (seven 0 2 0 ∷ seven 5 3 5 ∷ []))
-unfolding sizes.geometryOk sizes.isVersion sizes.isBlockSize headers.headerLen plan.ceil plan.leaves plan.above plan.levelsOf plan.shareOf plan.sharesFrom insertOutcome removeOutcome releaseOutcome bytes.beOf bytes.beBytes records.fieldsOf records.fieldBytes records.firstRecords records.recordsOf records.bytesOf accepted.whole accepted.inOrder rmap.reserved rmap.mapping rmap.exempt rmap.good rmap.keyOffset rmap.before rmap.follows refcount.staging refcount.good refcount.follows extent.over extent.within extent.goodExtent extent.grow extent.runs holding.holders held.eachBlock edits.first edits.isSome edits.replace edits.place edits.continues edits.attach edits.insertAfter edits.insert edits.contains edits.linesUp edits.chosen edits.front edits.later edits.placeLater edits.cutOut release.owners release.clear release.piece release.middle release.clamp release.lowered release.lowerAll release.alike release.continues release.joinFrom release.joinAll
+unfolding sizes.geometryOk sizes.isVersion sizes.isBlockSize headers.headerLen plan.ceil plan.leaves plan.above plan.levelsOf plan.shareOf plan.sharesFrom insertOutcome removeOutcome releaseOutcome bytes.beOf bytes.beBytes records.fieldsOf records.fieldBytes records.firstRecords records.recordsOf records.bytesOf accepted.whole accepted.inOrder rmap.reserved rmap.mapping rmap.exempt rmap.good rmap.keyOffset rmap.before rmap.follows refcount.staging refcount.good refcount.follows extent.over extent.within extent.goodExtent extent.grow extent.runs holding.holders held.eachBlock edits.first edits.isSome edits.replace edits.place edits.continues edits.attach edits.insertAfter edits.insert edits.contains edits.linesUp edits.chosen edits.front edits.later edits.placeLater edits.cutOut release.owners release.clear release.piece release.share release.fewer release.clamp release.lowered release.lowerAll release.sameKind release.continues release.joinFrom release.joinAll
 table = (refl, refl, refl, refl, refl, refl, refl, refl, refl, refl, refl, refl, refl, refl, refl, refl)

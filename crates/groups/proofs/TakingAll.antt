@@ -18,21 +18,22 @@ use Rattle.lists.proofs.RmapOrder.{good-facts}
 use Rattle.lists.proofs.Laws.{Taken, insertShared-takes}
 use Rattle.lists.proofs.Holding.{held-means}
 use Rattle.lists.proofs.Raising.{Lifted, raise-lifts}
-use Rattle.groups.specs.TakeHeld.{Both, raising, heldQuestions, fitBoth, takeHeldOutcome}
+use Rattle.groups.specs.Joint.{NewLists, fitAll}
+use Rattle.groups.specs.TakeHeld.{raising, takeHeldQuestions, takeHeldOutcome}
 
 module _ (map counts : List ℕ) (x : Rmap) (room countsRoom : ℕ) where
-  abbrev g : Both
+  abbrev g : NewLists
   g = raising x (recordsOf rmaps map) (recordsOf refcounts counts)
 
-  pub record TookAll (w : Both) : Type 0 where
+  pub record TookAll (w : NewLists) : Type 0 where
     pub map-after : Taken x (recordsOf rmaps map) (w .map)
     pub counts-after : Lifted (x .startblock) (x .blockcount) (recordsOf refcounts counts) (w .counts)
     pub all-held : (b : ℕ) → 0 < within (x .startblock) (x .blockcount) 1 b → 0 < holders (recordsOf rmaps map) b
 
-  pub takeHeld-law : (w : Both) → IsBytes map → IsBytes counts → RmapFits x → takeHeldOutcome map counts x room countsRoom ≡ done w → TookAll w
+  pub takeHeld-law : (w : NewLists) → IsBytes map → IsBytes counts → RmapFits x → takeHeldOutcome map counts x room countsRoom ≡ done w → TookAll w
   unfolding takeHeldOutcome
   takeHeld-law w hm hc f e =
-      let k = done-means (heldQuestions map counts x ++ (ask 26 (fitBoth g room countsRoom) ∷ [])) g w e in
+      let k = done-means (takeHeldQuestions map counts x ++ (ask 26 (fitAll g room countsRoom 0) ∷ [])) g w e in
       let q = k .0 in
       let good : rmap.good x ≡ true = q .1 .1 .1 .1 .0 in
       let h = good-facts x good in

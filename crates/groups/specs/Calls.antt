@@ -14,12 +14,9 @@ use Rattle.codec.specs.declared.free_extent.FreeExtent.{FreeExtent}
 use Rattle.lists.specs.declared.Edited.{Edited}
 use Rattle.lists.specs.declared.Edited.the-variants as edited
 use Rattle.lists.specs.Answer.{Inserts}
-use Rattle.groups.specs.declared.LetGone.{LetGone}
-use Rattle.groups.specs.declared.LetGone.the-variants as gone
-use Rattle.groups.specs.declared.TakenHeld.{TakenHeld}
-use Rattle.groups.specs.declared.TakenHeld.the-variants as taken
-use Rattle.groups.specs.Answer.{LetsGo}
-use Rattle.groups.specs.TakeHeldAnswer.{TakesHeld}
+use Rattle.groups.specs.declared.GroupEdited.{GroupEdited}
+use Rattle.groups.specs.declared.GroupEdited.the-variants as both
+use Rattle.groups.specs.Answer.{LetsGo, TakesHeld}
 use Rattle.groups.specs.History.{Lists, Change, take, takeHeld, letGo, Left, step, after, run}
 
 -- a lent buffer, before a call and after it
@@ -31,8 +28,8 @@ pub record Buffer : Type 0 where
 
 pub data Call : Type 0 where
   inserting : (x : Rmap) → RmapFits x → Edited → (new : Buffer) → Call
-  takingHeld : (x : Rmap) → RmapFits x → TakenHeld → (taken raised : Buffer) → Call
-  lettingGo : Rmap → LetGone → (kept lowered free : Buffer) → Call
+  takingHeld : (x : Rmap) → RmapFits x → GroupEdited → (taken raised : Buffer) → Call
+  lettingGo : Rmap → GroupEdited → (kept lowered free : Buffer) → Call
 
 -- made with the lists σ it keeps its contract
 abbrev pub Promised : Lists → Call → Type 0
@@ -58,17 +55,17 @@ listsOf map counts = record { map = map; counts = counts }
 abbrev pub onward : Lists → Call → Lists
 onward σ (inserting x fits (edited.Done n) new) = listsOf (front n new) (σ .counts)
 onward σ (inserting x fits (edited.Refused q) new) = σ
-onward σ (takingHeld x fits (taken.Done n) map counts) = listsOf (front (n .map) map) (front (n .counts) counts)
-onward σ (takingHeld x fits (taken.Refused q) map counts) = σ
-onward σ (lettingGo x (gone.Done n) kept lowered free) = listsOf (front (n .map) kept) (front (n .counts) lowered)
-onward σ (lettingGo x (gone.Refused q) kept lowered free) = σ
+onward σ (takingHeld x fits (both.Done n) map counts) = listsOf (front (n .map) map) (front (n .counts) counts)
+onward σ (takingHeld x fits (both.Refused q) map counts) = σ
+onward σ (lettingGo x (both.Done n) kept lowered free) = listsOf (front (n .map) kept) (front (n .counts) lowered)
+onward σ (lettingGo x (both.Refused q) kept lowered free) = σ
 
 -- the bytes of the free extents that a caller is offered
 abbrev pub offeredBytes : Call → List ℕ
 offeredBytes (inserting x fits r new) = []
 offeredBytes (takingHeld x fits r map counts) = []
-offeredBytes (lettingGo x (gone.Done n) kept lowered free) = front (n .free) free
-offeredBytes (lettingGo x (gone.Refused q) kept lowered free) = []
+offeredBytes (lettingGo x (both.Done n) kept lowered free) = front (n .free) free
+offeredBytes (lettingGo x (both.Refused q) kept lowered free) = []
 
 -- the free extents that a change offers
 abbrev pub offered : Outcome Left → List FreeExtent

@@ -23,17 +23,18 @@ use Rattle.blocks.specs.declared.kind.TreeKind.{TreeKind}
 use Rattle.blocks.specs.declared.kind.TreeKind.the-variants as kind
 use Rattle.blocks.specs.Geometry.{geometryOk, Fits}
 use Rattle.trees.specs.Plan.{sum}
-use Rattle.trees.specs.WalkCall.{Lent}
+use Rattle.walks.specs.WalkCall.{Lent}
 use Rattle.trees.specs.Build.{planOf, AreNumbers, Places, stored}
 use Rattle.trees.specs.BuildCall.{builtBytes, buildOutcome}
-use Rattle.trees.specs.Shapes.{shapeOf}
+use Rattle.walks.specs.Shapes.{shapeOf}
 use Rattle.trees.specs.RoundTrip as trip
 use Rattle.lists.specs.Extent.{over, within, Longest}
 use Rattle.lists.specs.Holders.{holders}
 use Rattle.lists.specs.Settled.{staged}
 use Rattle.lists.specs.Edits.{insertOutcome}
-use Rattle.groups.specs.LetGo.{Gone, letGoOutcome}
-use Rattle.groups.specs.TakeHeld.{Both, takeHeldOutcome}
+use Rattle.groups.specs.Joint.{NewLists}
+use Rattle.groups.specs.LetGo.{letGoOutcome}
+use Rattle.groups.specs.TakeHeld.{takeHeldOutcome}
 
 -- ---- holders
 
@@ -69,9 +70,9 @@ pub record Lists : Type 0 where
 pub record Accepted (σ : Lists) : Type 0 where
   pub map-bytes : IsBytes (σ .map)
   pub counts-bytes : IsBytes (σ .counts)
-  pub map-whole : whole 24 (σ .map) ≡ true
+  pub map-whole : whole (rmaps .size) (σ .map) ≡ true
   pub map-order : rmap.accepted (recordsOf rmaps (σ .map)) ≡ true
-  pub counts-whole : whole 12 (σ .counts) ≡ true
+  pub counts-whole : whole (refcounts .size) (σ .counts) ≡ true
   pub counts-order : refcount.accepted (recordsOf refcounts (σ .counts)) ≡ true
 
 abbrev pub Agreeing : Lists → Type 0
@@ -99,18 +100,15 @@ pub record Left : Type 0 where
 abbrev pub took : Lists → List Rmap → Left
 took σ m = record { lists = record { map = bytesOf rmaps m; counts = σ .counts }; free = [] }
 
-abbrev pub tookHeld : Both → Left
-tookHeld g = record { lists = record { map = bytesOf rmaps (g .map); counts = bytesOf refcounts (g .counts) }; free = [] }
-
-abbrev pub went : Gone → Left
-went g = record { lists = record { map = bytesOf rmaps (g .map); counts = bytesOf refcounts (g .counts) }; free = g .free }
+abbrev pub changed : NewLists → Left
+changed g = record { lists = record { map = bytesOf rmaps (g .map); counts = bytesOf refcounts (g .counts) }; free = g .free }
 
 -- each outcome is the one 01 defines, 23 of a first take being 02's, or 02 for a take of held blocks. That a caller of `insert`, `take_held` or
 -- `let_go` then holds the lists that are left, in the buffers that it lent, is `EveryCall` of specs/Calls.antt, from the contracts alone.
 unfoldable pub step : Lists → Change → Outcome Left
 step σ (take x fits room) = mapOutcome (took σ) (insertOutcome (σ .map) x room)
-step σ (takeHeld x fits room countsRoom) = mapOutcome tookHeld (takeHeldOutcome (σ .map) (σ .counts) x room countsRoom)
-step σ (letGo x room countsRoom freeRoom) = mapOutcome went (letGoOutcome (σ .map) (σ .counts) x room countsRoom freeRoom)
+step σ (takeHeld x fits room countsRoom) = mapOutcome changed (takeHeldOutcome (σ .map) (σ .counts) x room countsRoom)
+step σ (letGo x room countsRoom freeRoom) = mapOutcome changed (letGoOutcome (σ .map) (σ .counts) x room countsRoom freeRoom)
 
 -- each call reads the lists the last accepted one left
 unfoldable pub after : Lists → Outcome Left → Lists

@@ -1,7 +1,9 @@
+-- In reading order: what an edit of both lists leaves and comes to, the two edits, what their calls answer, the theorem about histories, and the
+-- calls that make one. `inner` is what private functions promise each other: no other crate names it.
+pub mod Joint
 pub mod LetGo
-pub mod Answer
-pub mod Measured
 pub mod TakeHeld
-pub mod TakeHeldAnswer
+pub mod Answer
 pub mod History
 pub mod Calls
+pub mod inner

@@ -1,65 +1,43 @@
-// The whole letting go: planned and measured without a write, then written where everything fits.
-use crate::LetGone;
+// The whole letting go: prepared and measured without a write, then written where everything fits.
+use crate::GroupEdited;
 use crate::Sizes;
+use crate::measured::Measure;
+use crate::measured::Measured;
+use crate::measured::fit_all;
 use codec::rmap::Rmap;
 use lists::EditRefusal;
-use lists::Lengths;
 use lists::Released;
 use lists::refcounts::measure;
 use lists::refcounts::write;
-use lists::rmap_edits::plan;
-use lists::rmap_plans::Edit;
-use lists::rmap_plans::Plan;
-use lists::rmap_plans::Planned;
-use lists::write::write_plan;
-ghost use mathlib.Core.Path.{_≡_};
-ghost use mathlib.Core.Bool.{_&&_};
-ghost use lib.Dec.{leb};
+use lists::rmap_edits::prepare;
+use lists::splice::Edit;
+use lists::splice::Prepared;
+use lists::write::write_splice;
 ghost use Rattle.groups.specs.Answer.{LetsGo};
-ghost use Rattle.groups.specs.Measured.{MeasuredIs};
-
-// The new reverse map planned, and the bytes of the new counts and of the free extents.
-pub(crate) struct Measure {
-    pub plan: Plan,
-    pub lengths: Lengths,
-}
-
-pub(crate) enum Measured {
-    Refused(EditRefusal),
-    Ready(Measure),
-}
+ghost use Rattle.groups.specs.inner.Measured.{LetGoMeasured};
 
 // All questions but 26: 19, 20, 22, 24, then 19, 21, 25. Nothing is written.
 fn measure_both(map: &[u8], counts: &[u8], x: Rmap) -> Measured
-    ensures { λ r. ⌜ MeasuredIs (now (map .entry)) (now (counts .entry)) x r ⌝ }
+    ensures { λ r. ⌜ LetGoMeasured (now (map .entry)) (now (counts .entry)) x r ⌝ }
 {
-    let planned = plan(map, Edit::Remove, x);
-    match planned {
-        Planned::Refused(why) => Measured::Refused(why),
-        Planned::Ready(p) => {
-            let measured = measure(counts, x.startblock, x.blockcount);
-            match measured {
+    let prepared = prepare(map, Edit::Remove, x);
+    match prepared {
+        Prepared::Refused(why) => Measured::Refused(why),
+        Prepared::Ready(p) => {
+            let released = measure(counts, x.startblock, x.blockcount);
+            match released {
                 Released::Refused(why) => Measured::Refused(why),
-                Released::Done(n) => Measured::Ready(Measure {
-                    plan: p,
-                    lengths: n,
-                }),
+                Released::Done(n) => {
+                    let sizes = Sizes {
+                        map: p.size,
+                        counts: n.counts,
+                        free: n.free,
+                    };
+                    Measured::Ready(Measure { splice: p, sizes })
+                }
             }
         }
     }
-}
-
-// Do the new reverse map, the new counts and the free extents fit what was lent?
-fn fit_all(size: usize, n: Lengths, map: usize, counts: usize, free: usize) -> bool
-    ensures { λ r. ⌜ r ≡ (leb size map && (leb (n .counts) counts && leb (n .free) free)) ⌝ }
-{
-    if map < size {
-        return false;
-    }
-    if counts < n.counts {
-        return false;
-    }
-    n.free <= free
 }
 
 // Lets the extent x go: its owner's mapping leaves the reverse map, the counts of its blocks are lowered, and the blocks that no shared record
@@ -72,27 +50,22 @@ pub fn let_go(
     kept: &mut [u8],
     lowered: &mut [u8],
     free: &mut [u8],
-) -> LetGone
+) -> GroupEdited
     ensures { λ r. ⌜ LetsGo (now (map .entry)) (now (counts .entry)) x r
         (now (kept .entry)) (now (kept .exit)) (now (lowered .entry)) (now (lowered .exit)) (now (free .entry)) (now (free .exit)) ⌝ }
 {
     let measured = measure_both(map, counts, x);
     match measured {
-        Measured::Refused(why) => LetGone::Refused(why),
+        Measured::Refused(why) => GroupEdited::Refused(why),
         Measured::Ready(m) => {
-            let p = m.plan;
-            let n = m.lengths;
-            let size = p.size;
-            if !fit_all(size, n, kept.len(), lowered.len(), free.len()) {
-                return LetGone::Refused(EditRefusal::Room);
+            let p = m.splice;
+            let n = m.sizes;
+            if !fit_all(n, kept.len(), lowered.len(), free.len()) {
+                return GroupEdited::Refused(EditRefusal::Room);
             }
-            write_plan(map, p, kept);
+            write_splice(map, p, kept);
             write(counts, x.startblock, x.blockcount, lowered, free);
-            LetGone::Done(Sizes {
-                map: size,
-                counts: n.counts,
-                free: n.free,
-            })
+            GroupEdited::Done(n)
         }
     }
 }

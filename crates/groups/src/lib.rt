@@ -2,29 +2,18 @@
 use lists::EditRefusal;
 
 pub mod let_go;
+mod measured;
 pub mod take_held;
 
-// The bytes of the new reverse map, of the new counts and of the free extents.
+// The bytes of the new reverse map, of the new counts and of the free extents; a take frees nothing.
 pub struct Sizes {
     pub map: usize,
     pub counts: usize,
     pub free: usize,
 }
 
-// What letting an extent go comes to. The number of each refusal (docs/QUESTIONS.md) is `editNumber` of the crate lists.
-pub enum LetGone {
+// What an edit of both lists comes to. The number of each refusal (docs/QUESTIONS.md) is `editNumber` of the crate lists.
+pub enum GroupEdited {
     Done(Sizes),
-    Refused(EditRefusal),
-}
-
-// The bytes of the new reverse map and of the new counts.
-pub struct BothSizes {
-    pub map: usize,
-    pub counts: usize,
-}
-
-// What a take of held blocks comes to.
-pub enum TakenHeld {
-    Done(BothSizes),
     Refused(EditRefusal),
 }

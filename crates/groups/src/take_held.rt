@@ -1,81 +1,84 @@
-// A take of blocks that others hold: planned and measured without a write, then written where both lists fit.
-use crate::BothSizes;
-use crate::TakenHeld;
+// A take of blocks that others hold: prepared and measured without a write, then written where both lists fit.
+use crate::GroupEdited;
+use crate::Sizes;
+use crate::measured::Measure;
+use crate::measured::Measured;
+use crate::measured::fit_all;
+use codec::check::ListChecked;
+use codec::refcount::check_order;
 use codec::rmap::Rmap;
 use lists::EditRefusal;
 use lists::Edited;
-use lists::edit_number;
 use lists::held::held;
 use lists::raises::measure;
 use lists::raises::write;
-use lists::rmap_edits::plan;
-use lists::rmap_plans::Edit;
-use lists::rmap_plans::Plan;
-use lists::rmap_plans::Planned;
-use lists::write::write_plan;
+use lists::rmap_edits::prepare;
+use lists::splice::Edit;
+use lists::splice::Prepared;
+use lists::write::write_splice;
 ghost use mathlib.Core.Path.{_≡_};
-ghost use Rattle.lists.specs.Answer.{editNumber, editedOutcome};
-ghost use Rattle.groups.specs.TakeHeldAnswer.{TakesHeld, countsFirst, heldFirst, RaisingIs};
+ghost use mathlib.Core.Bool.{true};
+ghost use Rattle.codec.specs.Question.{none, refused};
+ghost use Rattle.codec.specs.Records.{recordsOf, rmaps};
+ghost use Rattle.codec.specs.Rmaps.{accepted};
+ghost use Rattle.lists.specs.Answer.{editNumber};
+ghost use Rattle.groups.specs.Answer.{TakesHeld};
+ghost use Rattle.groups.specs.inner.Measured.{TakeHeldMeasured};
+ghost use Rattle.groups.specs.inner.Order.{countsBefore, heldBefore};
 
-// The new reverse map planned, and the bytes of the new counts.
-pub(crate) struct Raise {
-    pub plan: Plan,
-    pub counts: usize,
-}
-
-pub(crate) enum Raising {
-    Refused(EditRefusal),
-    Ready(Raise),
-}
-
-// The reverse map refuses: a refusal of the list of counts, 19 or 21, comes before those of the extent.
-fn counts_first(why: EditRefusal, counts: Edited) -> EditRefusal
-    ensures { λ q. ⌜ editNumber q ≡ countsFirst (editNumber why) (editedOutcome counts) ⌝ }
+// The reverse map is refused. A refusal of its list comes first of all; 19 and 21 of the counts come before one of the extent, 22 or 23.
+fn counts_before(counts: &[u8], why: EditRefusal) -> EditRefusal
+    ensures { λ r. ⌜ countsBefore (now (counts .entry)) why ≡ refused (editNumber r) none ⌝ }
 {
-    if edit_number(why) < 22 {
-        return why;
-    }
-    match counts {
-        Edited::Done(_) => why,
-        Edited::Refused(q) => {
-            if edit_number(q) < 22 {
-                return q;
+    match why {
+        EditRefusal::List(_) => why,
+        _ => {
+            let checked = check_order(counts);
+            match checked {
+                ListChecked::Refused(list) => EditRefusal::List(list),
+                ListChecked::Accepted(_) => why,
             }
-            why
         }
     }
 }
 
-// The counts refuse: 27 comes before 28.
-fn held_first(why: EditRefusal, all: bool) -> EditRefusal
-    ensures { λ q. ⌜ editNumber q ≡ heldFirst (editNumber why) all ⌝ }
+// The raise is refused. 27 comes before 28, and after all its other questions.
+fn held_before(map: &[u8], x: Rmap, why: EditRefusal) -> EditRefusal
+    requires { ⌜ accepted (recordsOf rmaps (now map)) ≡ true ⌝ }
+    ensures { λ r. ⌜ heldBefore (recordsOf rmaps (now (map .entry))) x why ≡ refused (editNumber r) none ⌝ }
 {
-    if all {
-        return why;
+    match why {
+        EditRefusal::Owners => {
+            if held(map, x.startblock, x.blockcount) {
+                return EditRefusal::Owners;
+            }
+            EditRefusal::Unheld
+        }
+        _ => why,
     }
-    if edit_number(why) == 28 {
-        return EditRefusal::Unheld;
-    }
-    why
 }
 
-// All questions but 26: the lists' own, 22, 23, 25, 27 and 28. Nothing is written.
-fn measure_both(map: &[u8], counts: &[u8], x: Rmap) -> Raising
-    ensures { λ r. ⌜ RaisingIs (now (map .entry)) (now (counts .entry)) x r ⌝ }
+// All questions but 26: 19, 20 of the reverse map, 19, 21 of the counts, then 22, 23, 25, 27 and 28. Nothing is written.
+fn measure_both(map: &[u8], counts: &[u8], x: Rmap) -> Measured
+    ensures { λ r. ⌜ TakeHeldMeasured (now (map .entry)) (now (counts .entry)) x r ⌝ }
 {
-    let planned = plan(map, Edit::InsertShared, x);
-    let raised = measure(counts, x.startblock, x.blockcount);
-    match planned {
-        Planned::Refused(why) => Raising::Refused(counts_first(why, raised)),
-        Planned::Ready(p) => {
-            let all = held(map, x.startblock, x.blockcount);
+    let prepared = prepare(map, Edit::InsertShared, x);
+    match prepared {
+        Prepared::Refused(why) => Measured::Refused(counts_before(counts, why)),
+        Prepared::Ready(p) => {
+            let raised = measure(counts, x.startblock, x.blockcount);
             match raised {
-                Edited::Refused(why) => Raising::Refused(held_first(why, all)),
+                Edited::Refused(why) => Measured::Refused(held_before(map, x, why)),
                 Edited::Done(n) => {
-                    if !all {
-                        return Raising::Refused(EditRefusal::Unheld);
+                    if !held(map, x.startblock, x.blockcount) {
+                        return Measured::Refused(EditRefusal::Unheld);
                     }
-                    Raising::Ready(Raise { plan: p, counts: n })
+                    let sizes = Sizes {
+                        map: p.size,
+                        counts: n,
+                        free: 0,
+                    };
+                    Measured::Ready(Measure { splice: p, sizes })
                 }
             }
         }
@@ -91,29 +94,22 @@ pub fn take_held(
     x: Rmap,
     taken: &mut [u8],
     raised: &mut [u8],
-) -> TakenHeld
+) -> GroupEdited
     ensures { λ r. ⌜ TakesHeld (now (map .entry)) (now (counts .entry)) x r
         (now (taken .entry)) (now (taken .exit)) (now (raised .entry)) (now (raised .exit)) ⌝ }
 {
     let measured = measure_both(map, counts, x);
     match measured {
-        Raising::Refused(why) => TakenHeld::Refused(why),
-        Raising::Ready(m) => {
-            let p = m.plan;
-            let n = m.counts;
-            let size = p.size;
-            if taken.len() < size {
-                return TakenHeld::Refused(EditRefusal::Room);
+        Measured::Refused(why) => GroupEdited::Refused(why),
+        Measured::Ready(m) => {
+            let p = m.splice;
+            let n = m.sizes;
+            if !fit_all(n, taken.len(), raised.len(), 0) {
+                return GroupEdited::Refused(EditRefusal::Room);
             }
-            if raised.len() < n {
-                return TakenHeld::Refused(EditRefusal::Room);
-            }
-            write_plan(map, p, taken);
+            write_splice(map, p, taken);
             write(counts, x.startblock, x.blockcount, raised);
-            TakenHeld::Done(BothSizes {
-                map: size,
-                counts: n,
-            })
+            GroupEdited::Done(n)
         }
     }
 }

@@ -6,12 +6,10 @@ use mathlib.Core.Path.{_≡_, refl, sym, ap, _∙_}
 use mathlib.Core.Bool.{Bool, true, false, not}
 use mathlib.Core.List.{List, [], _∷_, append-assoc}
 use lib.Dec.{ltb, leb}
-use borrow.Author.Tests.{ne-eqb}
 use Rattle.codec.specs.declared.refcount.Refcount.{Refcount}
-use Rattle.lists.specs.Release.{stop, piece, middle, clamp, lowered, lowerAll, joinAll}
+use Rattle.lists.specs.Release.{stop, piece, clamp, lowered, lowerAll, joinAll, share}
 use Rattle.lists.specs.Raise.{raised, full, ownersFit}
-use Rattle.lists.specs.Steps.{edited, fitIf}
-use Rattle.lists.specs.Passes.{fewer, next, fresh, share, changed, changeAll}
+use Rattle.lists.specs.inner.Passes.{countsAfter, fitIf, next, fresh, changed, changeAll}
 use Rattle.lists.proofs.Cases.{split, tests, conj, not-false}
 use Rattle.lists.proofs.Counts.{From, Accepted, lower-one}
 use Rattle.lists.proofs.Raising.{raiseOn, raiseAll-on, fullAt, full-at}
@@ -19,13 +17,9 @@ use Rattle.lists.proofs.CountJoins.{share-none, share-piece, more-some,
 
 -- ---- a release
 
-share-middle : (a z n : ℕ) → middle a z n ≡ share a z (next false n)
-unfolding share next fewer middle
-share-middle a z n = split (leb n 2) (λ e. rw e refl) (λ e. rw (e, ne-eqb (n - 1) 0 (omega tests)) refl)
-
 lowered-is : (s e : ℕ) (r : Refcount) → lowered s e r ≡ changed false s e r
-unfolding lowered changed
-lowered-is s e r = rw (share-middle (clamp r s) (clamp r e) (r .refcount)) refl
+unfolding lowered changed next
+lowered-is s e r = refl
 
 lowerAll-is : (s e d gap : ℕ) (l : List Refcount) → s ≤ e → e ≤ 2 ^ 31 → From d l → lowerAll s e l ≡ changeAll false s e gap l
 unfolding lowerAll changeAll fresh share
@@ -68,7 +62,7 @@ raiseOn-is s e d a (r ∷ l) h k p g o =
 -- ---- either
 
 -- both ways agree: the edits in the papers' words, by block and mark, and the pass in the order of starts as stored
-pub edited-is : (up : Bool) (s e : ℕ) (l : List Refcount) → s ≤ e → e ≤ 2 ^ 31 → Accepted l → fitIf up s e l ≡ true
-    → edited up s e l ≡ joinAll (changeAll up s e s l)
-edited-is true s e l h t g o = ap joinAll (raiseAll-on 0 s e l (omega arith) t g ∙ raiseOn-is s e 0 s l h (omega arith) (omega arith) g o)
-edited-is false s e l h t g o = ap joinAll (lowerAll-is s e 0 s l h t g)
+pub countsAfter-is : (up : Bool) (s e : ℕ) (l : List Refcount) → s ≤ e → e ≤ 2 ^ 31 → Accepted l → fitIf up s e l ≡ true
+    → countsAfter up s e l ≡ joinAll (changeAll up s e s l)
+countsAfter-is true s e l h t g o = ap joinAll (raiseAll-on 0 s e l (omega arith) t g ∙ raiseOn-is s e 0 s l h (omega arith) (omega arith) g o)
+countsAfter-is false s e l h t g o = ap joinAll (lowerAll-is s e 0 s l h t g)

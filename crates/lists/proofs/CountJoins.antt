@@ -13,9 +13,9 @@ use Rattle.codec.specs.Refcounts.{block, end}
 use Rattle.codec.specs.declared.refcount.Refcount.{Refcount}
 use Rattle.codec.proofs.RecordLists.{length-bytesOf, bytesOf-append}
 use Rattle.codec.proofs.RecordKinds.{refcounts-lawful}
-use Rattle.lists.specs.declared.join.Joiner.{Joiner}
-use Rattle.lists.specs.Release.{stop, piece, clamp, alike, continues, joined, joinFrom, joinAll}
-use Rattle.lists.specs.Passes.{putIf, recordOf, pending, joinOn, goesOn, fewer, more, next, fresh, share, changed, Lies, Fits, Room, Cut, Pushed}
+use Rattle.lists.specs.declared.carried.Joiner.{Joiner}
+use Rattle.lists.specs.Release.{stop, piece, clamp, sameKind, continues, joined, joinFrom, joinAll, fewer, share}
+use Rattle.lists.specs.inner.Passes.{putIf, recordOf, pending, joinOn, goesOn, more, next, fresh, changed, Lies, Fits, Room, Cut, Pushed}
 use Rattle.lists.proofs.Cases.{split, tests, conj}
 use Rattle.lists.proofs.Counts.{Good, shared, staged, continues-is}
 use Rattle.lists.proofs.Puts.{put-nil, put-put}
@@ -180,7 +180,7 @@ places a z n = record { startblock = a; blockcount = z - a; refcount = n }
 unlike : (j : Joiner) (a z n : ℕ) → eqb (j .owners) n ≡ false → continues (recordOf j) (places a z n) ≡ (eqb (j .start + j .count) a && eqb (j .owners) n)
 unfolding continues
 unlike j a z n q =
-    rw (q, and-false (eqb (end (recordOf j)) (block (places a z n))), and-false (alike (recordOf j) (places a z n))) (sym (and-false (eqb (j .start + j .count) a)))
+    rw (q, and-false (eqb (end (recordOf j)) (block (places a z n))), and-false (sameKind (recordOf j) (places a z n))) (sym (and-false (eqb (j .start + j .count) a)))
 
 goes-on : (j : Joiner) (a z n : ℕ) → a < z → 0 < n → Lies a z n → Lies (j .start) (j .start + j .count) (j .owners) → 0 < j .count
     → continues (recordOf j) (places a z n) ≡ (eqb (j .start + j .count) a && eqb (j .owners) n)

@@ -12,8 +12,7 @@ use Rattle.codec.specs.Records.{AllStorable, refcounts}
 use Rattle.codec.specs.Refcounts.{staging, accepted}
 use Rattle.codec.specs.declared.refcount.Refcount.{Refcount}
 use Rattle.lists.specs.Extent.{within}
-use Rattle.lists.specs.Release.{owners, stop, piece, clamp, middle, lowered, lowerAll, alike, continues, joined, joinFrom, joinAll, release}
-use Rattle.lists.specs.Passes.{fewer}
+use Rattle.lists.specs.Release.{owners, stop, piece, clamp, share, lowered, lowerAll, sameKind, continues, joined, joinFrom, joinAll, release, fewer}
 use Rattle.lists.proofs.Cases.{split, tests, conj, and-true, below, within-sum, within-in, within-left, within-right}
 use Rattle.lists.proofs.Places.{goodKind, acceptedFrom, Short, storable-short, accepted-place}
 
@@ -126,17 +125,21 @@ pub piece-right : (a z n b : ℕ) → z ≤ b → at (piece a z n) b ≡ 0
 unfolding at piece
 piece-right a z n b h = split (ltb a z) (λ e. rw e (omega (tests, within-right a (z - a) n b (omega tests)))) (λ e. rw e refl)
 
+-- what becomes of the owners between
+abbrev middle : ℕ → ℕ → ℕ → List Refcount
+middle a z n = share a z (fewer n)
+
 middle-in : (a z n b : ℕ) → a ≤ b → b < z → at (middle a z n) b ≡ fewer n
-unfolding middle fewer at
-middle-in a z n b h k = split (leb n 2) (λ e. rw e refl) (λ e. rw e (piece-in a z (n - 1) b h k))
+unfolding share fewer at
+middle-in a z n b h k = split (leb n 2) (λ e. rw e refl) (λ e. rw (e, ne-eqb (n - 1) 0 (omega tests)) (piece-in a z (n - 1) b h k))
 
 middle-left : (a z n b : ℕ) → b < a → at (middle a z n) b ≡ 0
-unfolding middle at
-middle-left a z n b h = split (leb n 2) (λ e. rw e refl) (λ e. rw e (piece-left a z (n - 1) b h))
+unfolding share fewer at
+middle-left a z n b h = split (leb n 2) (λ e. rw e refl) (λ e. rw (e, ne-eqb (n - 1) 0 (omega tests)) (piece-left a z (n - 1) b h))
 
 middle-right : (a z n b : ℕ) → z ≤ b → at (middle a z n) b ≡ 0
-unfolding middle at
-middle-right a z n b h = split (leb n 2) (λ e. rw e refl) (λ e. rw e (piece-right a z (n - 1) b h))
+unfolding share fewer at
+middle-right a z n b h = split (leb n 2) (λ e. rw e refl) (λ e. rw (e, ne-eqb (n - 1) 0 (omega tests)) (piece-right a z (n - 1) b h))
 
 -- ---- one record
 
@@ -189,8 +192,8 @@ unfolding piece
 piece-empty a z n h = rw (le-ltb a z h) refl
 
 middle-empty : (a n : ℕ) → middle a a n ≡ []
-unfolding middle
-middle-empty a n = split (leb n 2) (λ e. rw e refl) (λ e. rw e (piece-empty a a (n - 1) (omega arith)))
+unfolding share fewer
+middle-empty a n = split (leb n 2) (λ e. rw e refl) (λ e. rw (e, ne-eqb (n - 1) 0 (omega tests)) (piece-empty a a (n - 1) (omega arith)))
 
 pub staging-start : (r : Refcount) → staging r ≡ true → 2 ^ 31 ≤ r .startblock
 unfolding staging
@@ -220,7 +223,7 @@ lowerAll-at s e d (r ∷ l) b h t k =
 
 -- in the list's order s begins where r stops
 pub continues-is : (r s : Refcount) → Good r → Good s → continues r s ≡ (eqb (stop r) (s .startblock) && eqb (r .refcount) (s .refcount))
-unfolding continues alike staging
+unfolding continues sameKind staging
 continues-is r s (n, shared p q) (m, shared p′ q′) =
     let a : r .startblock % 2 ^ 31 ≡ r .startblock = omega arith in
     let b : s .startblock % 2 ^ 31 ≡ s .startblock = omega arith in
@@ -296,11 +299,11 @@ piece-from d a z n m h k f g =
     (λ e. rw e (weaken d z m (omega arith) g))
 
 middle-from : (d : ℕ) (r : Refcount) (a z : ℕ) (m : List Refcount) → OfKind r → d ≤ a → r .startblock ≤ a → a ≤ z → z ≤ stop r → From z m → From d (middle a z (r .refcount) ++ m)
-unfolding middle
+unfolding share fewer
 middle-from d r a z m k h p q t g =
     split (leb (r .refcount) 2)
     (λ e. rw e (weaken d z m (omega arith) g))
-    (λ e. rw e (piece-from d a z (r .refcount - 1) m h q (λ u. kind-middle r a z k p u t e) g))
+    (λ e. rw (e, ne-eqb (r .refcount - 1) 0 (omega tests)) (piece-from d a z (r .refcount - 1) m h q (λ u. kind-middle r a z k p u t e) g))
 
 lowered-from : (d s e : ℕ) (r : Refcount) (m : List Refcount) → s ≤ e → d ≤ r .startblock → Good r → From (stop r) m → From d (lowered s e r ++ m)
 unfolding lowered clamp

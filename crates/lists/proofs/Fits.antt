@@ -7,6 +7,7 @@ use mathlib.Core.List.{List, [], _∷_, _++_}
 use mathlib.Core.Option.{Option, none, some}
 use native.Mathlib.Omega.{arith}
 use lib.Dec.{ltb, leb, eqb}
+use borrow.Author.Tests.{ne-eqb}
 use Rattle.codec.specs.Records.{AllStorable, RmapFits, rmaps, RefcountFits, refcounts, freeExtents}
 use Rattle.codec.specs.Rmaps.{end, fileOffset, exempt, before, least}
 use Rattle.codec.specs.Refcounts.{staging}
@@ -15,7 +16,7 @@ use Rattle.codec.specs.declared.refcount.Refcount.{Refcount}
 use Rattle.codec.specs.declared.free_extent.FreeExtent.{FreeExtent}
 use Rattle.lists.specs.Extent.{grow, runs}
 use Rattle.lists.specs.RmapEdits.{first, replace, nothing, place, contains, chosen, front, later, placeLater, cutOut, remove, continues, joined, attach, insertAfter, insert, behind, ahead, shareBefore, insertShared}
-use Rattle.lists.specs.RmapPlans.{noOverlap}
+use Rattle.lists.specs.Held.{noOverlap}
 use Rattle.lists.specs.Release as R
 use Rattle.lists.proofs.Cases.{split, tests}
 use Rattle.lists.proofs.Found.{first-passes, contains-ends, chosen-contains}
@@ -151,14 +152,14 @@ pub narrow-piece : (a z n : ℕ) → n < 2 ^ 32 → All Narrow (R.piece a z n)
 unfolding R.piece
 narrow-piece a z n h = split (ltb a z) (λ e. rw e (h, tt)) (λ e. rw e tt)
 
-narrow-middle : (a z n : ℕ) → n < 2 ^ 32 → All Narrow (R.middle a z n)
-unfolding R.middle
-narrow-middle a z n h = split (leb n 2) (λ e. rw e tt) (λ e. rw e (narrow-piece a z (n - 1) (omega arith)))
+narrow-middle : (a z n : ℕ) → n < 2 ^ 32 → All Narrow (R.share a z (R.fewer n))
+unfolding R.share R.fewer
+narrow-middle a z n h = split (leb n 2) (λ e. rw e tt) (λ e. rw (e, ne-eqb (n - 1) 0 (omega tests)) (narrow-piece a z (n - 1) (omega arith)))
 
 narrow-lowered : (s e : ℕ) (r : Refcount) → Narrow r → All Narrow (R.lowered s e r)
 unfolding R.lowered
 narrow-lowered s e r h =
-    let m : List Refcount = R.middle (R.clamp r s) (R.clamp r e) (r .refcount) in
+    let m : List Refcount = R.share (R.clamp r s) (R.clamp r e) (R.fewer (r .refcount)) in
     let b : List Refcount = R.piece (R.clamp r e) (R.stop r) (r .refcount) in
     all-append Narrow (R.piece (r .startblock) (R.clamp r s) (r .refcount)) (m ++ b) (narrow-piece (r .startblock) (R.clamp r s) (r .refcount) h)
     (all-append Narrow m b (narrow-middle (R.clamp r s) (R.clamp r e) (r .refcount) h) (narrow-piece (R.clamp r e) (R.stop r) (r .refcount) h))

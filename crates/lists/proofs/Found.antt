@@ -10,7 +10,7 @@ use lib.Dec.{ltb, leb, eqb}
 use Rattle.codec.specs.Rmaps.{end, flags}
 use Rattle.codec.specs.declared.rmap.Rmap.{Rmap}
 use Rattle.lists.specs.RmapEdits.{first, isSome, any, replace, overlaps, contains, contained, linesUp, chosen, continues}
-use Rattle.lists.specs.RmapPlans.{noOverlap}
+use Rattle.lists.specs.Held.{noOverlap}
 use Rattle.lists.proofs.Cases.{split, tests, conj, and-l}
 
 -- what is found first passes the test

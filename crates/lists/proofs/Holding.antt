@@ -16,9 +16,8 @@ use Rattle.codec.specs.declared.rmap.Rmap.{Rmap}
 use Rattle.codec.proofs.RecordLists.{length-recordsOf, recordsOf-next}
 use Rattle.lists.specs.Extent.{over, within}
 use Rattle.lists.specs.Holders.{holders}
-use Rattle.lists.specs.Held.{eachBlock, heldAll, heldNone}
+use Rattle.lists.specs.Held.{eachBlock, heldAll, heldNone, noOverlap, OverlapsTell}
 use Rattle.lists.specs.RmapEdits.{first, isSome, overlaps}
-use Rattle.lists.specs.RmapPlans.{noOverlap, OverlapsTell}
 use Rattle.lists.proofs.Cases.{split, tests, over-facts, within-in, within-left, within-right, within-not}
 use Rattle.lists.proofs.Found.{overlaps-ends, no-overlap-parts}
 use Rattle.lists.proofs.RmapOrder.{Le, byStart, byOwner, byOffset, Acc, After, accepted-facts, good-facts}

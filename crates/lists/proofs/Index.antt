@@ -12,7 +12,7 @@ use borrow.Author.Tests.{lt-ltb, le-ltb}
 use Rattle.codec.specs.Rmaps.{least}
 use Rattle.codec.specs.declared.rmap.Rmap.{Rmap}
 use Rattle.lists.specs.RmapEdits.{first, isSome, any, replace, nothing}
-use Rattle.lists.specs.RmapPlans.{indexWhere, noteOf}
+use Rattle.lists.specs.inner.Searches.{indexWhere, noteOf}
 use Rattle.lists.proofs.Cases.{split, tests}
 
 module _ (p : Rmap → Bool) where

@@ -11,7 +11,7 @@ use borrow.Author.Tests.{lt-ltb, le-ltb}
 use Rattle.codec.specs.Rmaps.{least}
 use Rattle.codec.specs.declared.rmap.Rmap.{Rmap}
 use Rattle.lists.specs.RmapEdits.{attach, insertAfter, insert}
-use Rattle.lists.specs.RmapPlans.{indexWhere}
+use Rattle.lists.specs.inner.Searches.{indexWhere}
 use Rattle.lists.proofs.Cases.{split, tests}
 
 abbrev pub after : Rmap → List Rmap → ℕ

@@ -11,18 +11,14 @@ use lib.Seq.{drop-cons, append-snoc, take-suc}
 use borrow.Author.Tests.{lt-ltb, le-ltb, lt-leb, le-leb, eq-eqb, ne-eqb}
 use Rattle.codec.specs.Rmaps.{end, flags, fileOffset, reserved, exempt, least, accepted}
 use Rattle.codec.specs.declared.rmap.Rmap.{Rmap}
-use Rattle.lists.specs.declared.rmap_plans.Joined.{Joined}
-use Rattle.lists.specs.RmapEdits.{continues, joined, attach, overlaps, clash, contains, linesUp}
-use Rattle.lists.specs.RmapPlans.{alike, joinAt}
+use Rattle.lists.specs.declared.findings.Joined.{Joined}
+use Rattle.lists.specs.RmapEdits.{continues, joined, attach, overlaps, clash, contains, linesUp, alike}
+use Rattle.lists.specs.inner.Splicing.{joinAt}
 use Rattle.lists.proofs.Cases.{split, tests, conj}
 use Rattle.lists.proofs.Found.{continues-end}
 use Rattle.lists.proofs.RmapOrder.{each, accepted-facts}
 
 -- ---- the tests of the code
-
-and-assoc : (a b c : Bool) → (a && (b && c)) ≡ ((a && b) && c)
-and-assoc true b c = refl
-and-assoc false b c = refl
 
 or-right : (a : Bool) → (a || true) ≡ true
 or-right true = refl
@@ -33,58 +29,51 @@ or-none true = refl
 or-none false = refl
 
 module _ (r s : Rmap) where
-  continues-alike : continues r s ≡ (alike r s && (eqb (end r) (s .startblock) && (reserved (r .owner) || eqb (fileOffset r + r .blockcount) (fileOffset s))))
-  unfolding continues
-  continues-alike =
-      and-assoc (eqb (r .owner) (s .owner)) (eqb (flags r) (flags s))
-      (eqb (end r) (s .startblock) && (reserved (r .owner) || eqb (fileOffset r + r .blockcount) (fileOffset s)))
-
   pub alike-owner : (r .owner ≡ s .owner → ⊥) → false ≡ alike r s
   alike-owner h = simp (ne-eqb _ _ h)
 
-  pub alike-flags : r .owner ≡ s .owner → eqb (flags r) (flags s) ≡ alike r s
-  alike-flags h = simp (eq-eqb _ _ h)
+  pub alike-flags : r .owner ≡ s .owner → (a b : ℕ) → a ≡ flags r → b ≡ flags s → eqb a b ≡ alike r s
+  alike-flags h a b p q = rw (p, q, eq-eqb (r .owner) (s .owner) h) refl
 
   pub cont-unlike : alike r s ≡ false → false ≡ continues r s
-  cont-unlike h = sym (continues-alike ∙ rw h refl)
+  unfolding continues
+  cont-unlike h = rw h refl
 
   pub cont-apart : (end r ≡ s .startblock → ⊥) → false ≡ continues r s
   unfolding continues
   cont-apart h = simp (ne-eqb _ _ h, and-false)
 
   module _ (a : alike r s ≡ true) (b : end r ≡ s .startblock) where
-    pub cont-reserved : 2 ^ 63 ≤ r .owner → true ≡ continues r s
-    unfolding reserved
-    cont-reserved h = sym (continues-alike ∙ rw (a, eq-eqb (end r) (s .startblock) b, le-leb (2 ^ 63) (r .owner) h) refl)
+    pub cont-reserved : reserved (r .owner) ≡ true → true ≡ continues r s
+    unfolding continues
+    cont-reserved h = rw (a, eq-eqb (end r) (s .startblock) b, h) refl
 
-    pub cont-offset : r .owner < 2 ^ 63 → eqb (fileOffset r + r .blockcount) (fileOffset s) ≡ continues r s
-    unfolding reserved
-    cont-offset h = sym (continues-alike ∙ rw (a, eq-eqb (end r) (s .startblock) b, lt-leb (2 ^ 63) (r .owner) h) refl)
+    pub cont-offset : reserved (r .owner) ≡ false → (m n : ℕ) → m ≡ fileOffset r → n ≡ fileOffset s → eqb (m + r .blockcount) n ≡ continues r s
+    unfolding continues
+    cont-offset h m n p q = rw (p, q, a, eq-eqb (end r) (s .startblock) b, h) refl
 
 module _ (x r : Rmap) where
   -- ---- contains
 
-  contains-alike : contains x r ≡ (alike r x && (leb (r .startblock) (x .startblock) && leb (end x) (end r)))
-  unfolding contains
-  contains-alike = and-assoc (eqb (r .owner) (x .owner)) (eqb (flags r) (flags x)) (leb (r .startblock) (x .startblock) && leb (end x) (end r))
-
   pub holds-unlike : alike r x ≡ false → false ≡ contains x r
-  holds-unlike h = sym (contains-alike ∙ rw h refl)
+  unfolding contains
+  holds-unlike h = rw h refl
 
   pub holds-later : x .startblock < r .startblock → false ≡ contains x r
   unfolding contains
   holds-later h = simp (lt-leb _ _ h, and-false)
 
-  pub holds-end : alike r x ≡ true → r .startblock ≤ x .startblock → leb (end x) (end r) ≡ contains x r
-  holds-end a h = sym (contains-alike ∙ rw (a, le-leb (r .startblock) (x .startblock) h) refl)
+  pub holds-end : alike r x ≡ true → r .startblock ≤ x .startblock → (m n : ℕ) → m ≡ end x → n ≡ end r → leb m n ≡ contains x r
+  unfolding contains
+  holds-end a h m n p q = rw (p, q, a, le-leb (r .startblock) (x .startblock) h) refl
 
   pub lines-exempt : exempt r ≡ true → true ≡ linesUp x r
   unfolding linesUp
   lines-exempt h = rw h refl
 
-  pub lines-offset : exempt r ≡ false → eqb (fileOffset r + x .startblock) (fileOffset x + r .startblock) ≡ linesUp x r
+  pub lines-offset : exempt r ≡ false → (m n : ℕ) → m ≡ fileOffset r → n ≡ fileOffset x → eqb (m + x .startblock) (n + r .startblock) ≡ linesUp x r
   unfolding linesUp
-  lines-offset h = rw h refl
+  lines-offset h m n p q = rw (p, q, h) refl
 
   -- ---- clash
 
@@ -92,9 +81,9 @@ module _ (x r : Rmap) where
   unfolding overlaps
   overlaps-after h = simp (le-ltb _ _ h)
 
-  pub overlaps-end : r .startblock < end x → ltb (x .startblock) (end r) ≡ overlaps x r
+  pub overlaps-end : r .startblock < end x → (n : ℕ) → n ≡ end r → ltb (x .startblock) n ≡ overlaps x r
   unfolding overlaps
-  overlaps-end h = simp (lt-ltb _ _ h)
+  overlaps-end h n p = rw (p, lt-ltb (r .startblock) (end x) h) refl
 
   pub clash-apart : overlaps x r ≡ false → false ≡ clash x r
   unfolding clash
@@ -103,10 +92,7 @@ module _ (x r : Rmap) where
   module _ (a : overlaps x r ≡ true) where
     clash-over : clash x r ≡ (exempt r || (exempt x || (alike r x && eqb (fileOffset r + x .startblock) (fileOffset x + r .startblock))))
     unfolding clash
-    clash-over =
-        rw a
-        (ap (λ (t : Bool). exempt r || (exempt x || t))
-        (and-assoc (eqb (r .owner) (x .owner)) (eqb (flags r) (flags x)) (eqb (fileOffset r + x .startblock) (fileOffset x + r .startblock))))
+    clash-over = rw a refl
 
     pub clash-exempt : exempt x ≡ true → true ≡ clash x r
     clash-exempt h = sym (clash-over ∙ rw h (or-right (exempt r)))

@@ -4,32 +4,30 @@
 use Prim.Native.Nat.{ℕ, _+_, _^_, _≤_, _<_}
 use mathlib.Core.Bool.{Bool, true, cond, _&&_}
 use mathlib.Core.Path.{_≡_, refl, sym, subst, _∙_}
-use mathlib.Core.List.{List, [], _∷_, _++_}
+use mathlib.Core.List.{List, []}
 use native.Mathlib.Omega.{arith}
-use lib.Dec.{ltb, leb, eqb}
+use lib.Dec.{eqb}
 use lib.ListN.{length, take, drop}
 use lib.Seq.{take-at}
 use Rattle.codec.specs.Bytes.{IsBytes, withBytes}
-use Rattle.codec.specs.Question.{Outcome, done, ask, answer}
+use Rattle.codec.specs.Question.{done}
 use Rattle.codec.specs.Records.{Kind, recordsOf, bytesOf, AllStorable, RmapFits, rmaps, refcounts, freeExtents}
 use Rattle.codec.specs.Rmaps as rmap
 use Rattle.codec.specs.Refcounts as refcount
 use Rattle.codec.specs.declared.rmap.Rmap.{Rmap}
 use Rattle.codec.specs.declared.refcount.Refcount.{Refcount}
 use Rattle.codec.specs.declared.free_extent.FreeExtent.{FreeExtent}
-use Rattle.codec.proofs.Meaning.{done-means}
 use Rattle.codec.proofs.RecordKinds.{rmaps-lawful, refcounts-lawful}
 use Rattle.codec.proofs.ListBytes.{storable-recordsOf}
-use Rattle.lists.specs.Extent.{over, within, goodExtent, lies, Apart}
+use Rattle.lists.specs.declared.splice.Edit.the-variants.{Insert, InsertShared, Remove}
+use Rattle.lists.specs.Extent.{over, within, lies, Apart}
 use Rattle.lists.specs.Holders.{holders}
-use Rattle.lists.specs.Held.{heldNone}
+use Rattle.lists.specs.Held.{heldNone, noOverlap}
 use Rattle.lists.specs.RmapEdits.{insert, unclashed, insertShared, contained, remove}
-use Rattle.lists.specs.Release.{owners, release, unshared}
-use Rattle.lists.specs.RmapPlans.{noOverlap}
-use Rattle.lists.specs.Passes.{fewer}
+use Rattle.lists.specs.Release.{owners, release, unshared, fewer}
 use Rattle.lists.specs.Release as counts
-use Rattle.lists.specs.Edits.{mapQuestions, countQuestions, fits, insertOutcome, insertSharedOutcome, removeOutcome, Freed, releaseOutcome, written}
-use Rattle.lists.proofs.Cases.{tests, conj}
+use Rattle.lists.specs.Edits.{insertOutcome, insertSharedOutcome, removeOutcome, Freed, releaseOutcome, written}
+use Rattle.lists.proofs.Done.{edit-done, release-done}
 use Rattle.lists.proofs.RmapOrder.{good-facts, accepted-facts, facts-accepted, acc-insert, acc-insertShared, acc-remove}
 use Rattle.lists.proofs.Holders.{holders-insert, holders-insertShared, holders-remove}
 use Rattle.lists.proofs.Holding.{overlaps-tell, unheld-means}
@@ -118,68 +116,43 @@ release-lets start count l h a s =
 
 -- ---- over lent bytes
 
--- a take by an edit of its own
-abbrev pub takeOutcome : (Rmap → List Rmap → Bool) → (Rmap → List Rmap → List Rmap) → List ℕ → Rmap → ℕ → Outcome (List Rmap)
-takeOutcome test edit b x room =
-    let l : List Rmap = recordsOf rmaps b in
-    answer (mapQuestions b x ++ (ask 23 (test x l) ∷ ask 26 (fits rmaps (edit x l) room) ∷ [])) (done (edit x l))
-
-pub take-law : (test : Rmap → List Rmap → Bool) (edit : Rmap → List Rmap → List Rmap) → Takes test edit
-    → (b : List ℕ) (x : Rmap) (room : ℕ) (m : List Rmap) → IsBytes b → RmapFits x → takeOutcome test edit b x room ≡ done m
-    → Taken x (recordsOf rmaps b) m
-take-law test edit t b x room m h f e =
-    let l : List Rmap = recordsOf rmaps b in
-    let k = done-means (mapQuestions b x ++ (ask 23 (test x l) ∷ ask 26 (fits rmaps (edit x l) room) ∷ [])) (edit x l) m e in
-    let q = k .0 in
-    subst (Taken x l) (k .1) (t x l (q .1 .1 .0) (q .1 .1 .1 .0) (q .1 .0) f (storable-recordsOf rmaps rmaps-lawful b h))
-
 pub insert-law : (b : List ℕ) (x : Rmap) (room : ℕ) (m : List Rmap) → IsBytes b → RmapFits x → insertOutcome b x room ≡ done m
     → Taken x (recordsOf rmaps b) m
 unfolding insertOutcome
-insert-law = take-law unheld insert insert-takes
+insert-law b x room m h f e =
+    let l : List Rmap = recordsOf rmaps b in
+    let q = edit-done Insert b x room m e in
+    subst (Taken x l) (q .3) (insert-takes x l (q .1) (q .2) (q .0) f (storable-recordsOf rmaps rmaps-lawful b h))
 
 -- and nobody held a block of the extent
 pub insert-unheld : (b : List ℕ) (x : Rmap) (room : ℕ) (m : List Rmap) → insertOutcome b x room ≡ done m
     → (k : ℕ) → 0 < within (x .startblock) (x .blockcount) 1 k → holders (recordsOf rmaps b) k ≡ 0
 unfolding insertOutcome
-insert-unheld b x room m e k h =
-    let l : List Rmap = recordsOf rmaps b in
-    let q = done-means (mapQuestions b x ++ (ask 23 (unheld x l) ∷ ask 26 (fits rmaps (insert x l) room) ∷ [])) (insert x l) m e .0 in
-    unheld-means l (x .startblock) (x .blockcount) (q .1 .1 .1 .0) k h
+insert-unheld b x room m e k h = unheld-means (recordsOf rmaps b) (x .startblock) (x .blockcount) (edit-done Insert b x room m e .2) k h
 
 pub insertShared-law : (b : List ℕ) (x : Rmap) (room : ℕ) (m : List Rmap) → IsBytes b → RmapFits x → insertSharedOutcome b x room ≡ done m
     → Taken x (recordsOf rmaps b) m
 unfolding insertSharedOutcome
-insertShared-law = take-law unclashed insertShared insertShared-takes
+insertShared-law b x room m h f e =
+    let l : List Rmap = recordsOf rmaps b in
+    let q = edit-done InsertShared b x room m e in
+    subst (Taken x l) (q .3) (insertShared-takes x l (q .1) (q .2) (q .0) f (storable-recordsOf rmaps rmaps-lawful b h))
 
 pub remove-law : (b : List ℕ) (x : Rmap) (room : ℕ) (m : List Rmap) → IsBytes b → removeOutcome b x room ≡ done m
     → GivenUp x (recordsOf rmaps b) m
 unfolding removeOutcome
 remove-law b x room m h e =
     let l : List Rmap = recordsOf rmaps b in
-    let k = done-means (mapQuestions b x ++ (ask 24 (contained x l) ∷ ask 26 (fits rmaps (remove x l) room) ∷ [])) (remove x l) m e in
-    let q = k .0 in
-    subst (GivenUp x l) (k .1) (remove-gives x l (q .1 .1 .0) (q .1 .1 .1 .0) (q .1 .0) (storable-recordsOf rmaps rmaps-lawful b h))
+    let q = edit-done Remove b x room m e in
+    subst (GivenUp x l) (q .3) (remove-gives x l (q .1) (q .2) (q .0) (storable-recordsOf rmaps rmaps-lawful b h))
 
 pub release-law : (c : List ℕ) (start count room freeRoom : ℕ) (r : Freed) → IsBytes c → releaseOutcome c start count room freeRoom ≡ done r
     → LetGo start count (recordsOf refcounts c) (r .counts) (r .free)
-unfolding releaseOutcome goodExtent
 release-law c start count room freeRoom r h e =
     let l : List Refcount = recordsOf refcounts c in
-    let after : List Refcount = release start (start + count) l in
-    let free : List FreeExtent = unshared l start count in
-    let k = done-means
-    (countQuestions c
-    ++ (ask 22 (goodExtent start count)
-    ∷ ask 25 (counts.clear start (start + count) l)
-    ∷ ask 26 (fits refcounts after room && fits freeExtents free freeRoom)
-    ∷ []))
-    (record { counts = after; free = free }) r e in
-    let q = k .0 in
-    let g : (ltb 0 count && leb (start + count) (2 ^ 31)) ≡ true = q .1 .1 .0 in
-    let u : leb (start + count) (2 ^ 31) ≡ true = search conj in
-    subst (λ (r : Freed). LetGo start count l (r .counts) (r .free)) (k .1)
-    (release-lets start count l (omega tests) (q .1 .0) (storable-recordsOf refcounts refcounts-lawful c h))
+    let q = release-done c start count room freeRoom r e in
+    subst (λ (r : Freed). LetGo start count l (r .counts) (r .free)) (q .2)
+    (release-lets start count l (q .0) (q .1) (storable-recordsOf refcounts refcounts-lawful c h))
 
 -- ---- what was lent for the new list
 

@@ -10,7 +10,7 @@ use lib.Dec.{ltb, leb}
 use native.Mathlib.Numerals.{add-one}
 use lib.ListN.{length, drop, drop-of-length-le}
 use borrow.Author.Tests.{le-leb}
-use Rattle.codec.specs.Bytes.{IsBytes, bytesAt, withBytes}
+use Rattle.codec.specs.Bytes.{IsBytes, bytesAt}
 use Rattle.codec.specs.Records.{recordsOf, bytesOf, refcounts, freeExtents, AllStorable}
 use Rattle.codec.specs.Accepted.{inOrder}
 use Rattle.codec.specs.Refcounts.{staging, block, end, good, follows, least, accepted}
@@ -22,23 +22,21 @@ use Rattle.codec.proofs.FieldLists.{isBytes-take, isBytes-drop}
 use Rattle.codec.proofs.RecordLists.{length-recordsOf, recordsOf-next, storable-firstRecords}
 use Rattle.codec.proofs.RecordKinds.{refcounts-lawful}
 use Rattle.lists.specs.declared.EditRefusal.the-variants as why
-use Rattle.lists.specs.declared.Released.{Released}
 use Rattle.lists.specs.declared.Released.the-variants as released
-use Rattle.lists.specs.declared.join.Joiner.{Joiner}
-use Rattle.lists.specs.declared.pass.Walk.{Walk}
-use Rattle.lists.specs.Release.{stop, clear, joinAll, unshared}
+use Rattle.lists.specs.declared.carried.Joiner.{Joiner}
+use Rattle.lists.specs.declared.carried.Carried.{Carried}
+use Rattle.lists.specs.Release.{stop, clear, joinAll, share}
 use Rattle.lists.specs.Raise.{full, ownersFit, Raisable}
-use Rattle.lists.specs.Answer.{releasedOutcome, lengthsOf}
-use Rattle.lists.specs.Steps.{edited, fitIf, passOutcome, Writable, Passable}
-use Rattle.lists.specs.Passes.{putIf, run, pending, joinOn, fresh, share, changed, changedFrom, changeAll, begun, Lies, Fits, Room, Cut, Pushed, StepAsks, Stepped}
+use Rattle.lists.specs.Steps.{Writable}
+use Rattle.lists.specs.inner.Passes.{fitIf, passOutcome, Passable, putIf, gapOf, pending, joinOn, fresh, changed, changedFrom, changeAll, begun, Lies, Fits, Room, Cut, Pushed, StepAsks, Stepped, PassIs}
 use Rattle.lists.proofs.Cases.{tests, and-true}
 use Rattle.lists.proofs.Places.{goodPlace, acceptedFrom, good-place, follows-place}
 use Rattle.lists.proofs.Counts.{OfKind, shared, staged, Good, from-facts, accepted-facts}
 use Rattle.lists.proofs.Runs.{gaps, unshared-gaps}
 use Rattle.lists.proofs.Puts.{put-done, Going, going-start, going-put, going-room, going-end}
 use Rattle.lists.proofs.CountJoins.{joinOn-nil, joinOn-more, room-for, pushed-pushed}
-use Rattle.lists.proofs.Changes.{edited-is}
-use Rattle.lists.proofs.FreeRuns.{run-place, gaps-step, gaps-end}
+use Rattle.lists.proofs.Changes.{countsAfter-is}
+use Rattle.lists.proofs.FreeGaps.{gap-place, gaps-step, gaps-end}
 
 pub no : {P : Type 0} → false ≡ true → P
 no e = absurd (let y : _≡_ {A = ℕ} 0 1 = cc in omega arith)
@@ -98,7 +96,7 @@ and-assoc false b c = refl
 
 -- ---- between two records: l are those to come
 
-pub record Walking (up write list : Bool) (all : List Refcount) (s e : ℕ) (new₀ free₀ new₁ free₁ : List ℕ) (w : Walk) (l : List Refcount) : Type 0 where
+pub record Carrying (up write list : Bool) (all : List Refcount) (s e : ℕ) (new₀ free₀ new₁ free₁ : List ℕ) (w : Carried) (l : List Refcount) : Type 0 where
   pub order : accepted all ≡ inOrder good follows (w .prev) l
   pub clear : clear s e all ≡ (w .clear && clear s e l)
   pub fit : ownersFit s e all ≡ (w .fit && ownersFit s e l)
@@ -112,10 +110,10 @@ pub record Walking (up write list : Bool) (all : List Refcount) (s e : ℕ) (new
   pub place : w .free ≤ 8 * w .gap
   pub extents : Going list (bytesOf freeExtents (gaps s e all)) free₀ free₁ (w .free) (bytesOf freeExtents (gaps (w .gap) e l))
 
-pub walking-start : (up write list : Bool) (all : List Refcount) (s e : ℕ) (new free : List ℕ) (w : Walk) → w ≡ begun s → s ≤ 2 ^ 32
-    → Walking up write list all s e new free new free w all
+pub carrying-start : (up write list : Bool) (all : List Refcount) (s e : ℕ) (new free : List ℕ) (w : Carried) → w ≡ begun s → s ≤ 2 ^ 32
+    → Carrying up write list all s e new free new free w all
 unfolding joinOn
-walking-start up write list all s e new free w q h =
+carrying-start up write list all s e new free w q h =
     rw q (record {
       order = refl;
       clear = refl;
@@ -143,11 +141,11 @@ pub record Rooms (up write list : Bool) (all : List Refcount) (s e room freeRoom
   pub counts : write ≡ true → length (C (joinAll (changeAll up s e s all))) ≤ room
   pub extents : list ≡ true → length (bytesOf freeExtents (gaps s e all)) ≤ freeRoom
 
-module _ (up write list : Bool) (all : List Refcount) (s e : ℕ) (new₀ free₀ new free : List ℕ) (w : Walk) (rooms : Rooms up write list all s e (length new₀) (length free₀)) where
-  module _ (r : Refcount) (l m : List Refcount) (q : l ≡ r ∷ m) (walking : Walking up write list all s e new₀ free₀ new free w l)
+module _ (up write list : Bool) (all : List Refcount) (s e : ℕ) (new₀ free₀ new free : List ℕ) (w : Carried) (rooms : Rooms up write list all s e (length new₀) (length free₀)) where
+  module _ (r : Refcount) (l m : List Refcount) (q : l ≡ r ∷ m) (carrying : Carrying up write list all s e new₀ free₀ new free w l)
       (small : r .startblock < 2 ^ 32) (few : r .refcount < 2 ^ 32) (g : good r ≡ true) (f : follows (w .prev) r ≡ true) where
-    inv : Walking up write list all s e new₀ free₀ new free w (r ∷ m)
-    inv = rw q at walking
+    inv : Carrying up write list all s e new₀ free₀ new free w (r ∷ m)
+    inv = rw q at carrying
 
     placed : goodPlace r ≡ true
     placed = sym (good-place r small) ∙ g
@@ -174,13 +172,13 @@ module _ (up write list : Bool) (all : List Refcount) (s e : ℕ) (new₀ free�
           gap = omega (arith, inv .behind, inv .past);
           counts = λ u. omega (arith, rooms .counts u, inv .counts .kept, inv .counts .size, ap length change-more, joinOn-more (w .joiner) (changedFrom up s e (w .gap) r) rest);
           place = omega (arith, inv .place, inv .gap);
-          room = going-room list _ free₀ free (w .free) _ (F (run (w .gap) (min (r .startblock) e))) (F (gaps (max (w .gap) (stop r)) e m)) (inv .extents) (gaps-step (w .gap) e r m) (rooms .extents);
+          room = going-room list _ free₀ free (w .free) _ (F (gapOf (w .gap) (min (r .startblock) e))) (F (gaps (max (w .gap) (stop r)) e m)) (inv .extents) (gaps-step (w .gap) e r m) (rooms .extents);
         }
 
-    pub walking-step : (k : Walk) (new′ free′ : List ℕ) → length new′ ≡ length new → length free′ ≡ length free → Stepped up write list s e w r new free k new′ free′
-        → Walking up write list all s e new₀ free₀ new′ free′ k m
+    pub carrying-step : (k : Carried) (new′ free′ : List ℕ) → length new′ ≡ length new → length free′ ≡ length free → Stepped up write list s e w r new free k new′ free′
+        → Carrying up write list all s e new₀ free₀ new′ free′ k m
     unfolding inOrder clear ownersFit changeAll
-    walking-step k new′ free′ hn hf t =
+    carrying-step k new′ free′ hn hf t =
         let lies = record-lies r (good-facts r placed) few in
         let b = t .joiner in
         record {
@@ -200,14 +198,14 @@ module _ (up write list : Bool) (all : List Refcount) (s e : ℕ) (new₀ free�
           low = omega (arith, t .gap, inv .low);
           past = rw (t .prev) (omega (arith, t .gap));
           gap = omega (arith, t .gap, inv .gap, lies .0 .end);
-          place = rw (t .place, t .gap) (run-place (w .gap) (min (r .startblock) e) (stop r) (w .free) (inv .place) (omega arith));
-          extents = rw (t .gap) (going-put list _ free₀ free (w .free) _ (F (run (w .gap) (min (r .startblock) e))) (F (gaps (max (w .gap) (stop r)) e m)) (inv .extents) (gaps-step (w .gap) e r m) (rooms .extents) free′ (k .free) (t .place) (t .bytes) hf);
+          place = rw (t .place, t .gap) (gap-place (w .gap) (min (r .startblock) e) (stop r) (w .free) (inv .place) (omega arith));
+          extents = rw (t .gap) (going-put list _ free₀ free (w .free) _ (F (gapOf (w .gap) (min (r .startblock) e))) (F (gaps (max (w .gap) (stop r)) e m)) (inv .extents) (gaps-step (w .gap) e r m) (rooms .extents) free′ (k .free) (t .place) (t .bytes) hf);
         }
 
   -- behind the last record
-  module _ (l : List Refcount) (q : l ≡ []) (walking : Walking up write list all s e new₀ free₀ new free w l) where
-    last : Walking up write list all s e new₀ free₀ new free w []
-    last = rw q at walking
+  module _ (l : List Refcount) (q : l ≡ []) (carrying : Carrying up write list all s e new₀ free₀ new free w l) where
+    last : Carrying up write list all s e new₀ free₀ new free w []
+    last = rw q at carrying
 
     pub last-accepted : accepted all ≡ true
     unfolding inOrder
@@ -255,18 +253,18 @@ module _ (up write list : Bool) (all : List Refcount) (s e : ℕ) (new₀ free�
           → (n ≡ length (C (joinAll (changeAll up s e s all)))) × (new′ ≡ putIf write new₀ 0 (C (joinAll (changeAll up s e s all))))
       finish-done n new′ h b = going-end write _ new₀ new₁ new′ (j .at) n _ _ filled (ap C (joinOn-nil j)) h b
 
-    pub run-asks : ((w .free ≤ 2 ^ 36) × (e ≤ 2 ^ 31)) × (list ≡ true → w .free + length (bytesOf freeExtents (run (w .gap) e)) ≤ length free)
-    run-asks = (
+    pub gap-asks : ((w .free ≤ 2 ^ 36) × (e ≤ 2 ^ 31)) × (list ≡ true → w .free + length (bytesOf freeExtents (gapOf (w .gap) e)) ≤ length free)
+    gap-asks = (
       (omega (arith, last .place, last .gap), rooms .end),
       λ u. omega (arith, rooms .extents u, last .extents .kept, last .extents .size, ap length (gaps-end (w .gap) e)),
     )
 
-    pub run-done : (n : ℕ) (free′ : List ℕ) → n ≡ w .free + length (bytesOf freeExtents (run (w .gap) e)) → free′ ≡ putIf list free (w .free) (bytesOf freeExtents (run (w .gap) e))
+    pub gap-done : (n : ℕ) (free′ : List ℕ) → n ≡ w .free + length (bytesOf freeExtents (gapOf (w .gap) e)) → free′ ≡ putIf list free (w .free) (bytesOf freeExtents (gapOf (w .gap) e))
         → (n ≡ length (bytesOf freeExtents (gaps s e all))) × (free′ ≡ putIf list free₀ 0 (bytesOf freeExtents (gaps s e all)))
-    run-done n free′ h b = going-end list _ free₀ free free′ (w .free) n _ _ (last .extents) (gaps-end (w .gap) e) h b
+    gap-done n free′ h b = going-end list _ free₀ free free′ (w .free) n _ _ (last .extents) (gaps-end (w .gap) e) h b
 
 -- the gap before a record is filled, and then the record is changed
-module _ (up write list : Bool) (s e : ℕ) (w : Walk) (r : Refcount) (new : List ℕ) (freeRoom : ℕ) (ask : StepAsks up write list s e w r (length new) freeRoom)
+module _ (up write list : Bool) (s e : ℕ) (w : Carried) (r : Refcount) (new : List ℕ) (freeRoom : ℕ) (ask : StepAsks up write list s e w r (length new) freeRoom)
     (z : ℕ) (qz : z ≡ min (r .startblock) e) where
   pub fill-before : ((z ≤ 2 ^ 31) × (w .joiner .start + w .joiner .count ≤ w .gap)) × (Fits (w .joiner) × Room write (w .joiner) (length new))
   fill-before = (
@@ -298,13 +296,6 @@ module _ (up write list : Bool) (s e : ℕ) (w : Walk) (r : Refcount) (new : Lis
 
 -- ---- the answer at each exit
 
--- the answer r, and both buffers where they are written
-abbrev pub Told : (up write list : Bool) → List Refcount → (start count : ℕ) → (new₀ free₀ : List ℕ) → Released → (new′ free′ : List ℕ) → Type 0
-Told up write list all start count new₀ free₀ r new′ free′ =
-    (releasedOutcome r ≡ lengthsOf (passOutcome up all start count))
-    × ((write ≡ true → new′ ≡ withBytes new₀ 0 (C (edited up start (start + count) all)))
-    × (list ≡ true → free′ ≡ withBytes free₀ 0 (bytesOf freeExtents (unshared all start count))))
-
 module _ (up write list : Bool) (all : List Refcount) (start count : ℕ) (new₀ free₀ : List ℕ) (ask : Passable up all start count write list (length new₀) (length free₀)) where
   never : {P : Type 0} (t : Bool) → t ≡ true → t ≡ false → P
   never t a b = let z : _≡_ {A = Bool} true false = sym a ∙ b in absurd (let y : _≡_ {A = ℕ} 0 1 = cc in omega arith)
@@ -316,39 +307,41 @@ module _ (up write list : Bool) (all : List Refcount) (start count : ℕ) (new�
         end = ask .end;
         counts =
             λ u. let k = accepted-facts all h (ask .accepted u) in
-            rw (edited-is up start (start + count) all (omega arith) (ask .end) k (ask .owners u)) at (ask .counts u);
+            rw (countsAfter-is up start (start + count) all (omega arith) (ask .end) k (ask .owners u)) at (ask .counts u);
         extents =
             λ u. let k = accepted-facts all h (ask .accepted (ask .listed u)) in
             rw (unshared-gaps all start count k (ask .end)) at (ask .free u);
       }
 
   module _ (new′ free′ : List ℕ) where
-    pub told-order : accepted all ≡ false → Told up write list all start count new₀ free₀ (released.Refused (why.List RefcountOrder)) new′ free′
+    pub told-order : accepted all ≡ false → PassIs up write list all start count (released.Refused (why.List RefcountOrder)) new₀ new′ free₀ free′
     unfolding passOutcome
-    told-order h = (rw h refl, (λ u. never _ (ask .accepted u) h, λ u. never _ (ask .accepted (ask .listed u)) h))
+    told-order h = record { said = rw h refl; counts = λ u. never _ (ask .accepted u) h; extents = λ u. never _ (ask .accepted (ask .listed u)) h }
 
     module _ (h : accepted all ≡ true) where
-      pub told-staging : clear start (start + count) all ≡ false → Told up write list all start count new₀ free₀ (released.Refused why.Staging) new′ free′
+      pub told-staging : clear start (start + count) all ≡ false → PassIs up write list all start count (released.Refused why.Staging) new₀ new′ free₀ free′
       unfolding passOutcome
-      told-staging k = (rw (h, k) refl, (λ u. never _ (ask .clear u) k, λ u. never _ (ask .clear (ask .listed u)) k))
+      told-staging k = record { said = rw (h, k) refl; counts = λ u. never _ (ask .clear u) k; extents = λ u. never _ (ask .clear (ask .listed u)) k }
 
       module _ (k : clear start (start + count) all ≡ true) where
-        pub told-owners : fitIf up start (start + count) all ≡ false → Told up write list all start count new₀ free₀ (released.Refused why.Owners) new′ free′
+        pub told-owners : fitIf up start (start + count) all ≡ false → PassIs up write list all start count (released.Refused why.Owners) new₀ new′ free₀ free′
         unfolding passOutcome
-        told-owners o = (rw (h, k, o) refl, (λ u. never _ (ask .owners u) o, λ u. never _ (ask .owners (ask .listed u)) o))
+        told-owners o = record { said = rw (h, k, o) refl; counts = λ u. never _ (ask .owners u) o; extents = λ u. never _ (ask .owners (ask .listed u)) o }
 
         pub told-done : (n m : ℕ) → AllStorable refcounts all → fitIf up start (start + count) all ≡ true
             → (n ≡ length (C (joinAll (changeAll up start (start + count) start all)))) × (new′ ≡ putIf write new₀ 0 (C (joinAll (changeAll up start (start + count) start all))))
             → (m ≡ length (bytesOf freeExtents (gaps start (start + count) all))) × (free′ ≡ putIf list free₀ 0 (bytesOf freeExtents (gaps start (start + count) all)))
-            → Told up write list all start count new₀ free₀ (released.Done (record { counts = n; free = m })) new′ free′
+            → PassIs up write list all start count (released.Done (record { counts = n; free = m })) new₀ new′ free₀ free′
         unfolding passOutcome
         told-done n m st o a b =
             let facts = accepted-facts all st h in
-            let p = edited-is up start (start + count) all (omega arith) (ask .end) facts o in
-            let q = unshared-gaps all start count facts (ask .end) in (
-              rw (h, k, o, p, q, a .0, b .0) refl,
-              (λ u. rw p (put-done write new₀ new′ 0 _ (a .1) u), λ u. rw q (put-done list free₀ free′ 0 _ (b .1) u)),
-            )
+            let p = countsAfter-is up start (start + count) all (omega arith) (ask .end) facts o in
+            let q = unshared-gaps all start count facts (ask .end) in
+            record {
+              said = rw (h, k, o, p, q, a .0, b .0) refl;
+              counts = λ u. rw p (put-done write new₀ new′ 0 _ (a .1) u);
+              extents = λ u. rw q (put-done list free₀ free′ 0 _ (b .1) u);
+            }
 
 -- ---- what the pass asks, of each step
 
@@ -365,19 +358,19 @@ module _ (l : List Refcount) (start count room freeRoom : ℕ) where
 
 -- ---- the next record of the counts b
 
-module _ (up write list : Bool) (b : List ℕ) (start count : ℕ) (new₀ free₀ new free : List ℕ) (w : Walk) (ask : Passable up (recordsOf refcounts b) start count write list (length new₀) (length free₀))
+module _ (up write list : Bool) (b : List ℕ) (start count : ℕ) (new₀ free₀ new free : List ℕ) (w : Carried) (ask : Passable up (recordsOf refcounts b) start count write list (length new₀) (length free₀))
     (bytes : IsBytes b) (i : ℕ) (r : Refcount) (inside : i < length b / 12) (read : r ≡ refcounts .decode (bytesAt b (i * 12) 12))
-    (walking : Walking up write list (recordsOf refcounts b) start (start + count) new₀ free₀ new free w (drop i (recordsOf refcounts b)))
+    (carrying : Carrying up write list (recordsOf refcounts b) start (start + count) new₀ free₀ new free w (drop i (recordsOf refcounts b)))
     (g : good r ≡ true) (f : follows (w .prev) r ≡ true) where
   pub next-asks : StepAsks up write list start (start + count) w r (length new) (length free)
   next-asks =
       let fit = small b i r inside read bytes in
       step-asks up write list (recordsOf refcounts b) start (start + count) new₀ free₀ new free w (rooms-of up write list (recordsOf refcounts b) start count new₀ free₀ ask (storable b bytes))
-      r (drop i (recordsOf refcounts b)) (drop (i + 1) (recordsOf refcounts b)) (next b i r inside read) walking (fit .0) (fit .1) g f
+      r (drop i (recordsOf refcounts b)) (drop (i + 1) (recordsOf refcounts b)) (next b i r inside read) carrying (fit .0) (fit .1) g f
 
-  pub next-walking : (k : Walk) (new′ free′ : List ℕ) → length new′ ≡ length new → length free′ ≡ length free → Stepped up write list start (start + count) w r new free k new′ free′
-      → Walking up write list (recordsOf refcounts b) start (start + count) new₀ free₀ new′ free′ k (drop (i + 1) (recordsOf refcounts b))
-  next-walking =
+  pub next-carrying : (k : Carried) (new′ free′ : List ℕ) → length new′ ≡ length new → length free′ ≡ length free → Stepped up write list start (start + count) w r new free k new′ free′
+      → Carrying up write list (recordsOf refcounts b) start (start + count) new₀ free₀ new′ free′ k (drop (i + 1) (recordsOf refcounts b))
+  next-carrying =
       let fit = small b i r inside read bytes in
-      walking-step up write list (recordsOf refcounts b) start (start + count) new₀ free₀ new free w (rooms-of up write list (recordsOf refcounts b) start count new₀ free₀ ask (storable b bytes))
-      r (drop i (recordsOf refcounts b)) (drop (i + 1) (recordsOf refcounts b)) (next b i r inside read) walking (fit .0) (fit .1) g f
+      carrying-step up write list (recordsOf refcounts b) start (start + count) new₀ free₀ new free w (rooms-of up write list (recordsOf refcounts b) start count new₀ free₀ ask (storable b bytes))
+      r (drop i (recordsOf refcounts b)) (drop (i + 1) (recordsOf refcounts b)) (next b i r inside read) carrying (fit .0) (fit .1) g f

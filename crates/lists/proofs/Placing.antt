@@ -1,4 +1,4 @@
--- The laws of plans over the bytes of the old list, as the code meets them.
+-- The laws of splices over the bytes of the old list, as the code meets them.
 -- Assumes nothing.
 use Prim.Native.Nat.{ℕ, _+_, _-_, _*_, _/_, _%_, _^_, _≤_, _<_}
 use native.Mathlib.Omega.{arith}
@@ -17,17 +17,19 @@ use Rattle.codec.proofs.RecordLists.{length-recordsOf}
 use Rattle.lists.specs.declared.EditRefusal.{EditRefusal}
 use Rattle.lists.specs.declared.EditRefusal.the-variants as why
 use Rattle.lists.specs.declared.Edited.the-variants as said
-use Rattle.lists.specs.declared.rmap_plans.Asked.the-variants as asked
-use Rattle.lists.specs.declared.rmap_plans.Edit.{Edit}
-use Rattle.lists.specs.declared.rmap_plans.Part.{Part}
-use Rattle.lists.specs.declared.rmap_plans.Plan.{Plan}
-use Rattle.lists.specs.declared.rmap_plans.Planned.{Planned}
-use Rattle.lists.specs.declared.rmap_plans.Planned.the-variants as planned
-use Rattle.lists.specs.Held.{heldNone}
+use Rattle.lists.specs.declared.findings.Asked.the-variants as asked
+use Rattle.lists.specs.declared.splice.Edit.{Edit}
+use Rattle.lists.specs.declared.splice.Part.{Part}
+use Rattle.lists.specs.declared.splice.Splice.{Splice}
+use Rattle.lists.specs.declared.splice.Prepared.{Prepared}
+use Rattle.lists.specs.declared.splice.Prepared.the-variants as prepared
+use Rattle.lists.specs.Held.{heldNone, noOverlap}
 use Rattle.lists.specs.RmapEdits.{any, continues, joined, overlaps, later}
-use Rattle.lists.specs.Edits.{written}
+use Rattle.lists.specs.Edits.{written, allowed, edited}
 use Rattle.lists.specs.Answer.{editNumber, lengthOf, EditIs}
-use Rattle.lists.specs.RmapPlans.{allowed, edited, editBefore26, editOutcome, indexWhere, noOverlap, joinAt, partsOf, partCount, listOf, PartsGood, PlanGood, TakeGood, AskedIs, PlanIs, PlannedGood, plannedOutcome, roomed}
+use Rattle.lists.specs.Splice.{editBefore26, partsOf, partCount, listOf, PartsGood, SpliceGood, PreparedIs, PreparedGood, preparedOutcome}
+use Rattle.lists.specs.inner.Searches.{indexWhere, TakeGood, AskedIs}
+use Rattle.lists.specs.inner.Splicing.{editOutcome, joinAt, roomed}
 use Rattle.lists.proofs.Cases.{or-l}
 use Rattle.lists.proofs.Index.{index-le, any-index}
 use Rattle.lists.proofs.Holding.{overlaps-tell}
@@ -35,7 +37,7 @@ use Rattle.lists.proofs.RmapOrder.{fileEnd, each, accepted-facts, good-
 use Rattle.lists.proofs.Joining.{join-out, join-miss, join-hit, join-fits}
 use Rattle.lists.proofs.Scanning.{read-at}
 use Rattle.lists.proofs.Writing.{size-good}
-use Rattle.lists.proofs.Planning.{plan-done, plan-refused, room-asked}
+use Rattle.lists.proofs.Splicing.{prepare-done, prepare-refused, room-asked}
 
 -- ---- records and indices
 
@@ -61,10 +63,10 @@ moved-fits w n g e h k =
     let q : w .offset / 2 ^ 54 / 2 ^ 8 % 2 ≡ 1 → ⊥ = eqb-false (w .offset / 2 ^ 54 / 2 ^ 8 % 2) 1 m in
     omega arith
 
-pub later-is : (x w : Rmap) (o : ℕ) → o ≡ cond (exempt w) (w .offset) (w .offset + (end x - w .startblock))
-    → record { startblock = end x; blockcount = end w - end x; owner = w .owner; offset = o } ≡ later x w
+pub later-is : (x w : Rmap) (m n o : ℕ) → m ≡ end x → n ≡ end w → o ≡ cond (exempt w) (w .offset) (w .offset + (m - w .startblock))
+    → record { startblock = m; blockcount = n - m; owner = w .owner; offset = o } ≡ later x w
 unfolding later
-later-is x w o e = rw e refl
+later-is x w m n o p q e = rw (e, p, q) refl
 
 -- ---- a join
 
@@ -85,44 +87,44 @@ module _ (b : List ℕ) (behind : Bool) (i : ℕ) (x : Rmap) where
     pub joined-fits : accepted (recordsOf rmaps b) ≡ true → end x ≤ 2 ^ 31 → continues low high ≡ true → low .blockcount + high .blockcount < 2 ^ 32
     joined-fits a g h = rw (el, eh) (join-fits behind (recordsOf rmaps b) i x r a g within (read-at b i r k d) (rw (el, eh) at h))
 
--- ---- plans
+-- ---- splices
 
 pub ready-is : (b : List ℕ) (front : ℕ) (first second : Part) (rest m n : ℕ) → PartsGood (length b / 24) front first second rest → m ≡ partCount first → n ≡ partCount second
-    → (plannedOutcome (recordsOf rmaps b) (planned.Ready (record { front = front; first = first; second = second; rest = rest; size = (front + m + n + (length b / 24 - rest)) * 24 }))
+    → (preparedOutcome (recordsOf rmaps b) (prepared.Ready (record { front = front; first = first; second = second; rest = rest; size = (front + m + n + (length b / 24 - rest)) * 24 }))
     ≡ done (partsOf (recordsOf rmaps b) front first second rest))
-    × PlanGood (recordsOf rmaps b) (record { front = front; first = first; second = second; rest = rest; size = (front + m + n + (length b / 24 - rest)) * 24 })
-unfolding plannedOutcome
+    × SpliceGood (recordsOf rmaps b) (record { front = front; first = first; second = second; rest = rest; size = (front + m + n + (length b / 24 - rest)) * 24 })
+unfolding preparedOutcome
 ready-is b front first second rest m n g e f =
     let s = length-recordsOf rmaps b in
     (refl, size-good (recordsOf rmaps b) front first second rest ((front + m + n + (length b / 24 - rest)) * 24) (rw s g) (rw (s, e, f) refl))
 
 module _ (e : Edit) (b : List ℕ) (x : Rmap) where
-  pub planned-is : TakeGood b x → (p : Planned) (rs : List Rmap) → allowed e x (recordsOf rmaps b) .holds ≡ true → edited e x (recordsOf rmaps b) ≡ rs
-      → (plannedOutcome (recordsOf rmaps b) p ≡ done rs) × PlannedGood (recordsOf rmaps b) p → PlanIs e b x p
-  planned-is g p rs h f r = (r .0 ∙ plan-done e b x g rs h f, r .1)
+  pub prepared-is : TakeGood b x → (p : Prepared) (rs : List Rmap) → allowed e x (recordsOf rmaps b) .holds ≡ true → edited e x (recordsOf rmaps b) ≡ rs
+      → (preparedOutcome (recordsOf rmaps b) p ≡ done rs) × PreparedGood (recordsOf rmaps b) p → PreparedIs e b x p
+  prepared-is g p rs h f r = (r .0 ∙ prepare-done e b x g rs h f, r .1)
 
   pub refused-is : TakeGood b x → (q : EditRefusal) → allowed e x (recordsOf rmaps b) .holds ≡ false → allowed e x (recordsOf rmaps b) .number ≡ editNumber q → allowed e x (recordsOf rmaps b) .values ≡ none
-      → PlanIs e b x (planned.Refused q)
-  unfolding plannedOutcome
-  refused-is g q h n v = (plan-refused e b x g (editNumber q) h n v, tt)
+      → PreparedIs e b x (prepared.Refused q)
+  unfolding preparedOutcome
+  refused-is g q h n v = (prepare-refused e b x g (editNumber q) h n v, tt)
 
-  pub asked-is : (q : EditRefusal) → AskedIs e b x (asked.Refused q) → PlanIs e b x (planned.Refused q)
-  unfolding plannedOutcome editBefore26
+  pub asked-is : (q : EditRefusal) → AskedIs e b x (asked.Refused q) → PreparedIs e b x (prepared.Refused q)
+  unfolding preparedOutcome editBefore26
   asked-is q h = (sym (h (allowed e x (recordsOf rmaps b) ∷ []) (done (edited e x (recordsOf rmaps b)))), tt)
 
   -- ---- 26, and the write
 
   module _ (o : List ℕ) where
-    pub edit-refused : (q : EditRefusal) → PlanIs e b x (planned.Refused q)
+    pub edit-refused : (q : EditRefusal) → PreparedIs e b x (prepared.Refused q)
         → EditIs (editOutcome e b x (length o)) (said.Refused q) o o
-    unfolding plannedOutcome roomed written
+    unfolding preparedOutcome roomed written
     edit-refused q h =
         let a : refused (editNumber q) none ≡ editOutcome e b x (length o) = ap (roomed (length o)) (h .0) ∙ room-asked e b x (length o) in
         record { said = ap (lengthOf rmaps) a; wrote = ap (written rmaps o) a }
 
-    module _ (p : Plan) (h : PlanIs e b x (planned.Ready p)) where
+    module _ (p : Splice) (h : PreparedIs e b x (prepared.Ready p)) where
       pub edit-short : length o < p .size → EditIs (editOutcome e b x (length o)) (said.Refused why.Room) o o
-      unfolding plannedOutcome roomed written
+      unfolding preparedOutcome roomed written
       edit-short k =
           let l : List Rmap = listOf (recordsOf rmaps b) p in
           let n : leb (length (bytesOf rmaps l)) (length o) ≡ false = lt-leb (length (bytesOf rmaps l)) (length o) (omega (arith, h .1 .size)) in
@@ -132,7 +134,7 @@ module _ (e : Edit) (b : List ℕ) (x : Rmap) where
 
       pub edit-done : (o₁ : List ℕ) → p .size ≤ length o → o₁ ≡ withBytes o 0 (bytesOf rmaps (listOf (recordsOf rmaps b) p))
           → EditIs (editOutcome e b x (length o)) (said.Done (p .size)) o o₁
-      unfolding plannedOutcome roomed written
+      unfolding preparedOutcome roomed written
       edit-done o₁ k w =
           let l : List Rmap = listOf (recordsOf rmaps b) p in
           let n : leb (length (bytesOf rmaps l)) (length o) ≡ true = le-leb (length (bytesOf rmaps l)) (length o) (omega (arith, h .1 .size)) in

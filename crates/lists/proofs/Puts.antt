@@ -1,19 +1,15 @@
 -- Laws of bytes that are put into a buffer or only counted, and of a buffer on its way.
 -- Assumes nothing.
 use Prim.Native.Nat.{ℕ, _+_, _≤_, _<_}
-use native.Mathlib.Nat.{add-zero}
 use native.Mathlib.Omega.{arith}
 use mathlib.Core.Path.{_≡_, refl, sym, ap, _∙_}
 use mathlib.Core.Bool.{Bool, true, false, cond}
-use mathlib.Core.List.{List, [], _∷_, _++_, append-nil}
-use lib.ListN.{length, length-append, take-append-drop}
+use mathlib.Core.List.{List, [], _∷_, _++_}
+use lib.ListN.{length, length-append}
 use Rattle.codec.specs.Bytes.{withBytes}
 use Rattle.codec.proofs.Parts.{length-withBytes, withBytes-add}
-use Rattle.lists.specs.Passes.{putIf}
-
-withBytes-none : (s : List ℕ) (at : ℕ) → withBytes s at [] ≡ s
-unfolding withBytes
-withBytes-none s at = simp (add-zero, append-nil, take-append-drop)
+use Rattle.codec.proofs.Stores.{withBytes-none}
+use Rattle.lists.specs.inner.Passes.{putIf}
 
 pub put-nil : (w : Bool) (s : List ℕ) (at : ℕ) → putIf w s at [] ≡ s
 unfolding putIf

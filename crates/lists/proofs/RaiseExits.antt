@@ -17,7 +17,8 @@ use Rattle.lists.specs.Extent.{goodExtent}
 use Rattle.lists.specs.Release.{clear}
 use Rattle.lists.specs.Raise.{raise, ownersFit, raiseOutcome, Raisable}
 use Rattle.lists.specs.Answer.{lengthOf, lengthsOf}
-use Rattle.lists.specs.Steps.{measureOutcome, passOutcome}
+use Rattle.lists.specs.Steps.{measureOutcome}
+use Rattle.lists.specs.inner.Passes.{passOutcome}
 use Rattle.lists.proofs.Cases.{split}
 use Rattle.lists.proofs.Staged.{good-end}
 

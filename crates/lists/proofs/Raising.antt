@@ -9,18 +9,17 @@ use native.Mathlib.Nat.{add-zero, zero-add}
 use lib.Dec.{ltb, leb, eqb}
 use borrow.Author.Tests.{le-ltb, le-leb, lt-leb, ne-eqb}
 use Rattle.codec.specs.Bytes.{IsBytes}
-use Rattle.codec.specs.Question.{done, ask}
+use Rattle.codec.specs.Question.{done}
 use Rattle.codec.specs.Records.{recordsOf, AllStorable, refcounts}
 use Rattle.codec.specs.Refcounts as refcount
 use Rattle.codec.specs.Refcounts.{staging}
 use Rattle.codec.specs.declared.refcount.Refcount.{Refcount}
-use Rattle.codec.proofs.Meaning.{done-means}
 use Rattle.codec.proofs.RecordKinds.{refcounts-lawful}
 use Rattle.codec.proofs.ListBytes.{storable-recordsOf}
-use Rattle.lists.specs.Extent.{over, within, goodExtent}
-use Rattle.lists.specs.Release.{owners, clear, stop, piece, clamp}
+use Rattle.lists.specs.Extent.{over, within}
+use Rattle.lists.specs.Release.{owners, stop, piece, clamp}
 use Rattle.lists.specs.Raise.{raised, raiseAll, raise, full, ownersFit, raiseOutcome}
-use Rattle.lists.specs.Edits.{countQuestions}
+use Rattle.lists.proofs.Done.{raise-done}
 use Rattle.lists.proofs.Cases.{split, tests, conj, not-false, within-in, within-left, within-right}
 use Rattle.lists.proofs.Counts.{OfKind, shared, staged, Good, From, Accepted, accepted-facts, facts-accepted, weaken, at, at-append, at-left, owners-at, owners-high, piece-in, piece-left, piece-right, clamp-before, piece-whole, piece-empty, staging-start, kind-piece, joinAll-at, joinAll-from, piece-from}
 use Rattle.lists.proofs.Fits.{All, all-append, Narrow, narrow-piece, narrow-joinAll, storable-narrow, narrow-storable}
@@ -244,14 +243,7 @@ raise-lifts start count l h a o s =
     }
 
 pub raise-law : (c : List ℕ) (start count : ℕ) (m : List Refcount) → IsBytes c → raiseOutcome c start count ≡ done m → Lifted start count (recordsOf refcounts c) m
-unfolding raiseOutcome goodExtent
 raise-law c start count m h e =
     let l : List Refcount = recordsOf refcounts c in
-    let k = done-means
-    (countQuestions c ++ (ask 22 (goodExtent start count) ∷ ask 25 (clear start (start + count) l) ∷ ask 28 (ownersFit start (start + count) l) ∷ []))
-    (raise start (start + count) l) m e in
-    let q = k .0 in
-    let g : (ltb 0 count && leb (start + count) (2 ^ 31)) ≡ true = q .1 .1 .0 in
-    let u : leb (start + count) (2 ^ 31) ≡ true = search conj in
-    subst (Lifted start count l) (k .1)
-    (raise-lifts start count l (omega tests) (q .1 .0) (q .1 .1 .1 .1 .0) (storable-recordsOf refcounts refcounts-lawful c h))
+    let q = raise-done c start count m e in
+    subst (Lifted start count l) (q .3) (raise-lifts start count l (q .0) (q .1) (q .2) (storable-recordsOf refcounts refcounts-lawful c h))

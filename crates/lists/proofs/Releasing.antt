@@ -21,9 +21,10 @@ use Rattle.lists.specs.declared.Released.{Released}
 use Rattle.lists.specs.declared.Released.the-variants as released
 use Rattle.lists.specs.Extent.{goodExtent}
 use Rattle.lists.specs.Release.{clear, release, unshared}
-use Rattle.lists.specs.Edits.{Freed, fits, releaseOutcome, written}
+use Rattle.lists.specs.Edits.{Freed, fits, releaseOutcome, written, freed}
 use Rattle.lists.specs.Answer.{releasedOutcome, lengthsOf, ReleaseIs}
-use Rattle.lists.specs.Steps.{freed, measureOutcome, Writable, passOutcome}
+use Rattle.lists.specs.Steps.{measureOutcome, Writable}
+use Rattle.lists.specs.inner.Passes.{passOutcome}
 use Rattle.lists.proofs.Cases.{split, tests, conj}
 
 module _ (b : List ℕ) (start count : ℕ) where

@@ -14,7 +14,8 @@ use borrow.Author.Tests.{lt-ltb}
 use Rattle.codec.specs.Rmaps.{end, before, follows, least}
 use Rattle.codec.specs.declared.rmap.Rmap.{Rmap}
 use Rattle.lists.specs.RmapEdits.{first, any, replace, place, contains, contained, linesUp, chosen, front, later, placeLater, cutOut, remove}
-use Rattle.lists.specs.RmapPlans.{indexWhere, seat, run}
+use Rattle.lists.specs.Splice.{between}
+use Rattle.lists.specs.inner.Searches.{indexWhere, seat}
 use Rattle.lists.proofs.Cases.{split, tests, conj}
 use Rattle.lists.proofs.Found.{contains-ends, chosen-contains}
 use Rattle.lists.proofs.Index.{index-passes, index-same, index-drop, first-some, any-index, replace-at, index-first}
@@ -66,11 +67,11 @@ past-front z x w b h =
     (λ e. rw e (rw (before-start (record { startblock = w .startblock; blockcount = x .startblock - w .startblock; owner = w .owner; offset = w .offset }) z h) refl))
     (λ e. rw e refl)
 
--- a run, and what stands from its end on
-pub run-rest : (l : List Rmap) (a p : ℕ) → a ≤ p → run l a p ++ drop p l ≡ drop a l
-run-rest l a p h =
+-- the records from a up to p, and what stands from p on
+pub between-rest : (l : List Rmap) (a p : ℕ) → a ≤ p → between l a p ++ drop p l ≡ drop a l
+between-rest l a p h =
     let s : a + (p - a) ≡ p = omega arith in
-    ap (λ (m : List Rmap). run l a p ++ m) (ap (λ (n : ℕ). drop n l) (sym s) ∙ sym (drop-drop (p - a) a l)) ∙ take-append-drop (p - a) (drop a l)
+    ap (λ (m : List Rmap). between l a p ++ m) (ap (λ (n : ℕ). drop n l) (sym s) ∙ sym (drop-drop (p - a) a l)) ∙ take-append-drop (p - a) (drop a l)
 
 -- the record at i is cut
 module _ (x : Rmap) (l : List Rmap) (acc : Accepted l) (pos : 0 < x .blockcount) (i : ℕ) (ei : i ≡ indexWhere (chosen x l) l) (hi : i < length l) where
@@ -98,7 +99,7 @@ module _ (x : Rmap) (l : List Rmap) (acc : Accepted l) (pos : 0 < x .blockcount)
   pub cut-before-seat : i + 1 ≤ seat k l
   cut-before-seat = let h = seat-past k l i acc hi (stands-before i (omega arith)) in omega arith
 
-  place-cut : place k (take i l ++ (front x w ++ drop (suc i) l)) ≡ take i l ++ (front x w ++ (run l (i + 1) (seat k l) ++ (k ∷ drop (seat k l) l)))
+  place-cut : place k (take i l ++ (front x w ++ drop (suc i) l)) ≡ take i l ++ (front x w ++ (between l (i + 1) (seat k l) ++ (k ∷ drop (seat k l) l)))
   place-cut =
       let p : ℕ = seat k l in
       let d : indexWhere (follows k) (drop (suc i) l) ≡ p - suc i = index-drop (follows k) l (suc i) (omega (arith, cut-before-seat)) in
@@ -112,13 +113,13 @@ module _ (x : Rmap) (l : List Rmap) (acc : Accepted l) (pos : 0 < x .blockcount)
 
   -- the new list in its parts; where nothing is left after x any place serves
   pub cut-is : remove x l
-      ≡ take i l ++ (front x w ++ run l (i + 1) (seat k l)) ++ cond (ltb (end x) (end w)) (k ∷ []) [] ++ drop (seat k l) l
+      ≡ take i l ++ (front x w ++ between l (i + 1) (seat k l)) ++ cond (ltb (end x) (end w)) (k ∷ []) [] ++ drop (seat k l) l
   unfolding cutOut placeLater
   cut-is =
       let p : ℕ = seat k l in
       let f : first (chosen x l) l ≡ some w = rw ei (first-some (chosen x l) l (rw ei at hi)) in
       let r : replace (chosen x l) (front x) l ≡ take i l ++ (front x w ++ drop (suc i) l) = rw ei (replace-at (chosen x l) (front x) l (rw ei at hi)) in
-      let all : run l (i + 1) p ++ drop p l ≡ drop (suc i) l = run-rest l (i + 1) p cut-before-seat ∙ rw (add-one i) refl in
+      let all : between l (i + 1) p ++ drop p l ≡ drop (suc i) l = between-rest l (i + 1) p cut-before-seat ∙ rw (add-one i) refl in
       ap (cutOut x l) f
       ∙ split (ltb (end x) (end w))
       (λ e. rw e (ap (place k) r ∙ place-cut ∙ simp append-assoc))

@@ -13,7 +13,7 @@ use Rattle.codec.specs.Accepted.{inOrder}
 use Rattle.codec.specs.Rmaps.{end, fileOffset, flags, reserved, mapping, exempt, good, keyOffset, before, follows, least, accepted}
 use Rattle.codec.specs.declared.rmap.Rmap.{Rmap}
 use Rattle.lists.specs.RmapEdits.{first, replace, nothing, place, contains, chosen, front, later, placeLater, cutOut, remove, continues, joined, attach, overlaps, insertAfter, insert, behind, ahead, shareBefore, insertShared}
-use Rattle.lists.specs.RmapPlans.{noOverlap}
+use Rattle.lists.specs.Held.{noOverlap}
 use Rattle.lists.proofs.Cases.{split, tests, conj, and-true, or-l, not-false}
 use Rattle.lists.proofs.Found.{first-passes, no-overlap-parts, contains-ends, chosen-contains}
 

@@ -13,7 +13,7 @@ use Rattle.codec.specs.declared.refcount.Refcount.{Refcount}
 use Rattle.codec.specs.declared.free_extent.FreeExtent.{FreeExtent}
 use Rattle.lists.specs.Extent.{grow, runs}
 use Rattle.lists.specs.Release.{owners, stop, unshared}
-use Rattle.lists.specs.Passes.{run}
+use Rattle.lists.specs.inner.Passes.{gapOf}
 use Rattle.lists.proofs.Cases.{split, tests, within-in, within-right}
 use Rattle.lists.proofs.Counts.{From, Accepted, owners-left, kind-owners}
 
@@ -84,14 +84,14 @@ runs-skip p s (suc n) m h =
     rw (suc-add, q) (rw (h s (omega arith) (omega arith)) (runs-skip p (suc s) n m (λ b u v. h b (omega arith) (omega arith))))
 
 -- the same from block to block: a run from a up to m, and then blocks that fail the test up to z
-runs-run : (p : ℕ → Bool) (a z : ℕ) → a ≤ z → ((b : ℕ) → a ≤ b → b < z → p b ≡ true) → runs p a (z - a) ≡ run a z
-unfolding run runs
-runs-run p a z l h =
+runs-gap : (p : ℕ → Bool) (a z : ℕ) → a ≤ z → ((b : ℕ) → a ≤ b → b < z → p b ≡ true) → runs p a (z - a) ≡ gapOf a z
+unfolding gapOf runs
+runs-gap p a z l h =
     split (ltb a z)
     (λ e. let q : z - a ≡ suc (z - a - 1) = omega tests in rw (e, q) (runs-true p a (z - a - 1) (λ b u v. h b u (omega tests))))
     (λ e. let q : z - a ≡ 0 = omega tests in rw (e, q) refl)
 
-runs-part : (p : ℕ → Bool) (a m z e : ℕ) → a ≤ m → m < z → z ≤ e → ((b : ℕ) → a ≤ b → b < m → p b ≡ true) → ((b : ℕ) → m ≤ b → b < z → p b ≡ false) → runs p a (e - a) ≡ run a m ++ runs p z (e - z)
+runs-part : (p : ℕ → Bool) (a m z e : ℕ) → a ≤ m → m < z → z ≤ e → ((b : ℕ) → a ≤ b → b < m → p b ≡ true) → ((b : ℕ) → m ≤ b → b < z → p b ≡ false) → runs p a (e - a) ≡ gapOf a m ++ runs p z (e - z)
 runs-part p a m z e l k g t f =
     let q : e - a ≡ (m - a) + (e - m) = omega arith in
     let q′ : a + (m - a) ≡ m = omega arith in
@@ -100,23 +100,23 @@ runs-part p a m z e l k g t f =
     let u : runs p m (e - m) ≡ runs p z (e - z) = rw (r, runs-skip p m (z - m) (e - z) (λ b x y. f b x (omega arith)), r′) refl in
     let v : runs p a ((m - a) + (e - m)) ≡ runs p a (m - a) ++ runs p (a + (m - a)) (e - m) =
     runs-append p a (m - a) (e - m) (rw q′ (runs-head-false p m (e - m) (f m (omega arith) k))) in
-    rw (q, v, q′, runs-run p a m l t, u) refl
+    rw (q, v, q′, runs-gap p a m l t, u) refl
 
 -- ---- along the records
 
 -- the free runs from a up to e
 unfoldable pub gaps : ℕ → ℕ → List Refcount → List FreeExtent
-gaps a e [] = run a e
-gaps a e (r ∷ l) = run a (min (r .startblock) e) ++ gaps (max a (stop r)) e l
+gaps a e [] = gapOf a e
+gaps a e (r ∷ l) = gapOf a (min (r .startblock) e) ++ gaps (max a (stop r)) e l
 
-run-none : (a z : ℕ) → z ≤ a → run a z ≡ []
-unfolding run
-run-none a z h = rw (le-ltb a z h) refl
+gap-none : (a z : ℕ) → z ≤ a → gapOf a z ≡ []
+unfolding gapOf
+gap-none a z h = rw (le-ltb a z h) refl
 
 gaps-done : (a e : ℕ) (l : List Refcount) → e ≤ a → gaps a e l ≡ []
 unfolding gaps
-gaps-done a e [] h = run-none a e h
-gaps-done a e (r ∷ l) h = rw (run-none a (min (r .startblock) e) (omega arith), gaps-done (max a (stop r)) e l (omega arith)) refl
+gaps-done a e [] h = gap-none a e h
+gaps-done a e (r ∷ l) h = rw (gap-none a (min (r .startblock) e) (omega arith), gaps-done (max a (stop r)) e l (omega arith)) refl
 
 abbrev none-over : List Refcount → ℕ → Bool
 none-over l b = eqb (owners l b) 0
@@ -141,33 +141,33 @@ owners-before d r l b h k = eq-eqb (owners (r ∷ l) b) 0 (owners-left (r .start
 runs-past : (d a e : ℕ) (r : Refcount) (l : List Refcount) → From d (r ∷ l) → e ≤ 2 ^ 31 → stop r ≤ a → a ≤ e → runs (none-over (r ∷ l)) a (e - a) ≡ runs (none-over l) a (e - a)
 runs-past d a e r l h t k g = runs-same (none-over (r ∷ l)) (none-over l) a (e - a) (λ b u v. ap (λ (n : ℕ). eqb n 0) (owners-past d r l b h (omega arith) (omega arith)))
 
-run-ends : (a m n : ℕ) → m ≡ max a n → run a m ≡ run a n
-run-ends a m n h =
+gap-ends : (a m n : ℕ) → m ≡ max a n → gapOf a m ≡ gapOf a n
+gap-ends a m n h =
     split (leb n a)
-    (λ e. run-none a m (omega tests) ∙ sym (run-none a n (omega tests)))
-    (λ e. ap (run a) (omega tests))
+    (λ e. gap-none a m (omega tests) ∙ sym (gap-none a n (omega tests)))
+    (λ e. ap (gapOf a) (omega tests))
 
 pub runs-gaps : (d a e : ℕ) (l : List Refcount) → From d l → a ≤ e → e ≤ 2 ^ 31 → runs (none-over l) a (e - a) ≡ gaps a e l
 unfolding gaps owners runs
-runs-gaps d a e [] h k t = runs-run (none-over []) a e k (λ b u v. refl)
+runs-gaps d a e [] h k t = runs-gap (none-over []) a e k (λ b u v. refl)
 runs-gaps d a e (r ∷ l) h k t =
     split (leb e (r .startblock))
     (λ f. let q : min (r .startblock) e ≡ e = omega tests in
-    rw (q, gaps-done (max a (stop r)) e l (omega tests), append-nil) (runs-run (none-over (r ∷ l)) a e k (λ b u v. owners-before d r l b h (omega tests))))
+    rw (q, gaps-done (max a (stop r)) e l (omega tests), append-nil) (runs-gap (none-over (r ∷ l)) a e k (λ b u v. owners-before d r l b h (omega tests))))
     (λ f. split (leb (stop r) a)
     (λ g. let q : max a (stop r) ≡ a = omega tests in
-    rw (run-none a (min (r .startblock) e) (omega tests), q) (runs-past d a e r l h t (omega tests) k ∙ runs-gaps (stop r) a e l (h .2) k t))
+    rw (gap-none a (min (r .startblock) e) (omega tests), q) (runs-past d a e r l h t (omega tests) k ∙ runs-gaps (stop r) a e l (h .2) k t))
     (λ g. split (ltb a e)
     (λ u. let p = runs-part (none-over (r ∷ l)) a (max a (r .startblock)) (min (stop r) e) e (omega arith) (omega tests) (omega arith)
     (λ b x y. owners-before d r l b h (omega arith)) (λ b x y. owners-over d r l b h (omega tests) (omega arith) (omega arith)) in
     let q : max a (stop r) ≡ stop r = omega tests in
-    p ∙ rw (q, run-ends a (max a (r .startblock)) (min (r .startblock) e) (omega tests))
-    (ap (λ (fs : List FreeExtent). run a (min (r .startblock) e) ++ fs)
+    p ∙ rw (q, gap-ends a (max a (r .startblock)) (min (r .startblock) e) (omega tests))
+    (ap (λ (fs : List FreeExtent). gapOf a (min (r .startblock) e) ++ fs)
     (split (leb e (stop r))
     (λ v. let w : min (stop r) e ≡ e = omega tests in let n : e - e ≡ 0 = omega arith in rw (w, n, gaps-done (stop r) e l (omega tests)) refl)
     (λ v. let w : min (stop r) e ≡ stop r = omega tests in rw w (runs-past d (stop r) e r l h t (omega arith) (omega tests) ∙ runs-gaps (stop r) (stop r) e l (h .2) (omega tests) t)))))
     (λ u. let n : e - a ≡ 0 = omega tests in
-    rw (n, run-none a (min (r .startblock) e) (omega tests), gaps-done (max a (stop r)) e l (omega tests)) refl)))
+    rw (n, gap-none a (min (r .startblock) e) (omega tests), gaps-done (max a (stop r)) e l (omega tests)) refl)))
 
 -- the free extents of a release in one pass along the counts
 pub unshared-gaps : (l : List Refcount) (start count : ℕ) → Accepted l → start + count ≤ 2 ^ 31 → unshared l start count ≡ gaps start (start + count) l

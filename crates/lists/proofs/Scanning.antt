@@ -15,12 +15,12 @@ use Rattle.codec.specs.Rmaps.{end, keyOffset, before, good, follows, least, acc
 use Rattle.codec.specs.declared.rmap.Rmap.{Rmap}
 use Rattle.codec.proofs.ListOrder.{order-bad, order-low, order-pass}
 use Rattle.codec.proofs.RecordLists.{length-recordsOf, getD-recordsOf}
-use Rattle.lists.specs.declared.rmap_plans.Edit.{Edit}
-use Rattle.lists.specs.declared.rmap_plans.Edit.the-variants.{Insert, InsertShared, Remove}
-use Rattle.lists.specs.declared.rmap_plans.Hits.{Hits}
-use Rattle.lists.specs.declared.rmap_plans.Scan.{Scan}
+use Rattle.lists.specs.declared.splice.Edit.{Edit}
+use Rattle.lists.specs.declared.splice.Edit.the-variants.{Insert, InsertShared, Remove}
+use Rattle.lists.specs.declared.findings.Hits.{Hits}
+use Rattle.lists.specs.declared.findings.Scan.{Scan}
 use Rattle.lists.specs.RmapEdits.{continues, overlaps, clash, contains, linesUp}
-use Rattle.lists.specs.RmapPlans.{indexWhere, seat, touches, tests, noteOf, Noted, ScanIs}
+use Rattle.lists.specs.inner.Searches.{indexWhere, seat, touches, tests, noteOf, Noted, ScanIs}
 use Rattle.lists.proofs.Cases.{split, tests as facts, and-l, and-r, and-true}
 use Rattle.lists.proofs.Found.{overlaps-ends, contains-ends, continues-end}
 use Rattle.lists.proofs.Index.{index-le, index-same, seen, seen-none, seen-le, seen-next, seen-all}
@@ -31,14 +31,14 @@ use Rattle.lists.proofs.Seats.{seat-past, seat-at}
 
 -- no search finds it
 abbrev none-hit : Hits
-none-hit = record { first = false; second = false; third = false }
+none-hit = record { conflict = false; before = false; after = false; aligned = false; containing = false }
 
 module _ (e : Edit) (x r : Rmap) where
-  pub hits-insert : (a : Bool) → e ≡ Insert → a ≡ overlaps x r → record { first = a; second = false; third = false } ≡ tests e x r
+  pub hits-insert : (a : Bool) → e ≡ Insert → a ≡ overlaps x r → record { conflict = a; before = false; after = false; aligned = false; containing = false } ≡ tests e x r
   unfolding tests
   hits-insert a h p = rw (h, p) refl
 
-  pub hits-shared : (a b c : Bool) → e ≡ InsertShared → a ≡ clash x r → b ≡ continues r x → c ≡ continues x r → record { first = a; second = b; third = c } ≡ tests e x r
+  pub hits-shared : (a b c : Bool) → e ≡ InsertShared → a ≡ clash x r → b ≡ continues r x → c ≡ continues x r → record { conflict = a; before = b; after = c; aligned = false; containing = false } ≡ tests e x r
   unfolding tests
   hits-shared a b c h p q s = rw (h, p, q, s) refl
 
@@ -46,7 +46,7 @@ module _ (e : Edit) (x r : Rmap) where
   unfolding tests
   hits-outside h c = rw (h, c) refl
 
-  pub hits-remove : (a : Bool) → e ≡ Remove → contains x r ≡ true → a ≡ linesUp x r → record { first = a; second = true; third = false } ≡ tests e x r
+  pub hits-remove : (a : Bool) → e ≡ Remove → contains x r ≡ true → a ≡ linesUp x r → record { conflict = false; before = false; after = false; aligned = a; containing = true } ≡ tests e x r
   unfolding tests
   hits-remove a h c p = rw (h, c, p) refl
 
@@ -57,9 +57,9 @@ module _ (x r : Rmap) where
   unfolding touches
   touches-below h = simp (lt-leb _ _ h)
 
-  pub touches-from : x .startblock ≤ end r → leb (r .startblock) (end x) ≡ touches x r
+  pub touches-from : x .startblock ≤ end r → (n : ℕ) → n ≡ end x → leb (r .startblock) n ≡ touches x r
   unfolding touches
-  touches-from h = simp (le-leb _ _ h)
+  touches-from h n p = rw (p, le-leb (x .startblock) (end r) h) refl
 
   module _ (apart : touches x r ≡ false) where
     apart-ends : x .startblock ≤ end r → r .startblock ≤ end x → ⊥
@@ -90,20 +90,21 @@ note-none : (found n i : ℕ) → found ≤ n → found ≡ noteOf found n i fal
 unfolding noteOf
 note-none found n i h = split (ltb found n) (λ e. rw e refl) (λ e. rw e (omega facts))
 
-pub noted-apart : (e : Edit) (x r : Rmap) (s : Scan) (i n : ℕ) → touches x r ≡ false → (s .first ≤ n) × (s .second ≤ n) × (s .third ≤ n) → Noted (tests e x r) i n s s
+pub noted-apart : (e : Edit) (x r : Rmap) (s : Scan) (i n : ℕ) → touches x r ≡ false → (s .conflict ≤ n) × (s .before ≤ n) × (s .after ≤ n) × (s .aligned ≤ n) × (s .containing ≤ n) → Noted (tests e x r) i n s s
 noted-apart e x r s i n t h =
     rw (tests-apart x r t e)
     (record {
       ordered = refl;
-      first = note-none (s .first) n i (h .0);
-      second = note-none (s .second) n i (h .1);
-      third = note-none (s .third) n i (h .2);
+      conflict = note-none (s .conflict) n i (h .0);
+      before = note-none (s .before) n i (h .1);
+      after = note-none (s .after) n i (h .2);
+      aligned = note-none (s .aligned) n i (h .3);
+      containing = note-none (s .containing) n i (h .4);
     })
 
-pub noted-touching : (e : Edit) (x r : Rmap) (s : Scan) (i n : ℕ) (h : Hits) (a b c : ℕ) → h ≡ tests e x r → a ≡ noteOf (s .first) n i (h .first) → b ≡ noteOf (s .second) n i (h .second) → c ≡ noteOf (s .third) n i (h .third)
-    → Noted (tests e x r) i n s (record { ordered = s .ordered; first = a; second = b; third = c })
-noted-touching e x r s i n h a b c q u v w =
-    rw (← q) (record { ordered = refl; first = u; second = v; third = w })
+pub noted-touching : (e : Edit) (x r : Rmap) (s : Scan) (i n : ℕ) (h : Hits) (k : Scan) → h ≡ tests e x r → Noted h i n s k
+    → Noted (tests e x r) i n s k
+noted-touching e x r s i n h k q t = rw (← q) t
 
 -- ---- the record read
 
@@ -112,22 +113,24 @@ read-at b i r h e = e ∙ sym (getD-recordsOf rmaps b i least h)
 
 -- ---- one pass
 
-pub scan-bad : (e : Edit) (x : Rmap) (l : List Rmap) (a b c : ℕ) → accepted l ≡ false → ScanIs e x l (record { ordered = false; first = a; second = b; third = c })
-scan-bad e x l a b c h = record { ordered = sym h; finds = λ t. absurd (let z : _≡_ {A = ℕ} 0 1 = cc in omega arith) }
+pub scan-bad : (e : Edit) (x : Rmap) (l : List Rmap) (s : Scan) → accepted l ≡ false → s .ordered ≡ false → ScanIs e x l s
+scan-bad e x l s h k = record { ordered = k ∙ sym h; finds = λ t. absurd (let z : _≡_ {A = ℕ} 0 1 = cc in omega arith) }
 
 -- each search has found what there is among the first i records
 pub record Seen (e : Edit) (x : Rmap) (b : List ℕ) (i : ℕ) (s : Scan) : Type 0 where
   pub ordered : s .ordered ≡ true
-  pub first : s .first ≡ seen (indexWhere (λ r. tests e x r .first) (recordsOf rmaps b)) i (length b / 24)
-  pub second : s .second ≡ seen (indexWhere (λ r. tests e x r .second) (recordsOf rmaps b)) i (length b / 24)
-  pub third : s .third ≡ seen (indexWhere (λ r. tests e x r .third) (recordsOf rmaps b)) i (length b / 24)
+  pub conflict : s .conflict ≡ seen (indexWhere (λ r. tests e x r .conflict) (recordsOf rmaps b)) i (length b / 24)
+  pub before : s .before ≡ seen (indexWhere (λ r. tests e x r .before) (recordsOf rmaps b)) i (length b / 24)
+  pub after : s .after ≡ seen (indexWhere (λ r. tests e x r .after) (recordsOf rmaps b)) i (length b / 24)
+  pub aligned : s .aligned ≡ seen (indexWhere (λ r. tests e x r .aligned) (recordsOf rmaps b)) i (length b / 24)
+  pub containing : s .containing ≡ seen (indexWhere (λ r. tests e x r .containing) (recordsOf rmaps b)) i (length b / 24)
 
-pub scan-start : (e : Edit) (x : Rmap) (b : List ℕ) → Seen e x b 0 (record { ordered = true; first = length b / 24; second = length b / 24; third = length b / 24 })
-scan-start e x b = record { ordered = refl; first = seen-none _ _; second = seen-none _ _; third = seen-none _ _ }
+pub scan-start : (e : Edit) (x : Rmap) (b : List ℕ) → Seen e x b 0 (record { ordered = true; conflict = length b / 24; before = length b / 24; after = length b / 24; aligned = length b / 24; containing = length b / 24 })
+scan-start e x b = record { ordered = refl; conflict = seen-none _ _; before = seen-none _ _; after = seen-none _ _; aligned = seen-none _ _; containing = seen-none _ _ }
 
 module _ (e : Edit) (x : Rmap) (b : List ℕ) (i : ℕ) (s : Scan) (found : Seen e x b i s) where
-  pub scan-room : i ≤ length b / 24 → (s .first ≤ length b / 24) × (s .second ≤ length b / 24) × (s .third ≤ length b / 24)
-  scan-room h = (seen-le _ i _ _ h (found .first), seen-le _ i _ _ h (found .second), seen-le _ i _ _ h (found .third))
+  pub scan-room : i ≤ length b / 24 → (s .conflict ≤ length b / 24) × (s .before ≤ length b / 24) × (s .after ≤ length b / 24) × (s .aligned ≤ length b / 24) × (s .containing ≤ length b / 24)
+  scan-room h = (seen-le _ i _ _ h (found .conflict), seen-le _ i _ _ h (found .before), seen-le _ i _ _ h (found .after), seen-le _ i _ _ h (found .aligned), seen-le _ i _ _ h (found .containing))
 
   -- one record more
   pub scan-next : (r : Rmap) (k : Scan) → i < length b / 24 → r ≡ rmaps .decode (bytesAt b (i * 24) 24) → Noted (tests e x r) i (length b / 24) s k → Seen e x b (i + 1) k
@@ -136,9 +139,11 @@ module _ (e : Edit) (x : Rmap) (b : List ℕ) (i : ℕ) (s : Scan) (found : Seen
       let q = read-at b i r h d in
       record {
         ordered = t .ordered ∙ found .ordered;
-        first = seen-next (λ r. tests e x r .first) (recordsOf rmaps b) i (length b / 24) _ _ r n h q (found .first) (t .first);
-        second = seen-next (λ r. tests e x r .second) (recordsOf rmaps b) i (length b / 24) _ _ r n h q (found .second) (t .second);
-        third = seen-next (λ r. tests e x r .third) (recordsOf rmaps b) i (length b / 24) _ _ r n h q (found .third) (t .third);
+        conflict = seen-next (λ r. tests e x r .conflict) (recordsOf rmaps b) i (length b / 24) _ _ r n h q (found .conflict) (t .conflict);
+        before = seen-next (λ r. tests e x r .before) (recordsOf rmaps b) i (length b / 24) _ _ r n h q (found .before) (t .before);
+        after = seen-next (λ r. tests e x r .after) (recordsOf rmaps b) i (length b / 24) _ _ r n h q (found .after) (t .after);
+        aligned = seen-next (λ r. tests e x r .aligned) (recordsOf rmaps b) i (length b / 24) _ _ r n h q (found .aligned) (t .aligned);
+        containing = seen-next (λ r. tests e x r .containing) (recordsOf rmaps b) i (length b / 24) _ _ r n h q (found .containing) (t .containing);
       }
 
   pub scan-end : length b / 24 ≤ i → accepted (recordsOf rmaps b) ≡ true → ScanIs e x (recordsOf rmaps b) s
@@ -148,9 +153,11 @@ module _ (e : Edit) (x : Rmap) (b : List ℕ) (i : ℕ) (s : Scan) (found : Seen
         ordered = found .ordered ∙ sym a;
         finds = λ t.
             record {
-              first = found .first ∙ seen-all (λ r. tests e x r .first) (recordsOf rmaps b) i (length b / 24) n h;
-              second = found .second ∙ seen-all (λ r. tests e x r .second) (recordsOf rmaps b) i (length b / 24) n h;
-              third = found .third ∙ seen-all (λ r. tests e x r .third) (recordsOf rmaps b) i (length b / 24) n h;
+              conflict = found .conflict ∙ seen-all (λ r. tests e x r .conflict) (recordsOf rmaps b) i (length b / 24) n h;
+              before = found .before ∙ seen-all (λ r. tests e x r .before) (recordsOf rmaps b) i (length b / 24) n h;
+              after = found .after ∙ seen-all (λ r. tests e x r .after) (recordsOf rmaps b) i (length b / 24) n h;
+              aligned = found .aligned ∙ seen-all (λ r. tests e x r .aligned) (recordsOf rmaps b) i (length b / 24) n h;
+              containing = found .containing ∙ seen-all (λ r. tests e x r .containing) (recordsOf rmaps b) i (length b / 24) n h;
             };
       }
 

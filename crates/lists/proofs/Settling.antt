@@ -3,30 +3,29 @@
 use Prim.Native.Nat.{ℕ, _+_, _%_, _^_, _≤_, _<_}
 use mathlib.Core.Bool.{true, false, _&&_, _||_}
 use mathlib.Core.Path.{_≡_, refl, sym, ap, subst, _∙_}
-use mathlib.Core.List.{List, [], _∷_, _++_}
+use mathlib.Core.List.{List, [], _∷_}
 use native.Mathlib.Omega.{arith}
 use native.Mathlib.Nat.{zero-add}
 use lib.Dec.{ltb, leb}
 use borrow.Author.Tests.{lt-ltb, le-ltb, le-leb, lt-leb}
-use Rattle.codec.specs.Question.{done, ask}
+use Rattle.codec.specs.Question.{done}
 use Rattle.codec.specs.Bytes as bytes
 use Rattle.codec.specs.Accepted as accepted
 use Rattle.codec.specs.Records as records
-use Rattle.codec.specs.Records.{recordsOf, bytesOf, AllStorable, refcounts, freeExtents}
+use Rattle.codec.specs.Records.{recordsOf, bytesOf, AllStorable, refcounts}
 use Rattle.codec.specs.Refcounts as refcount
 use Rattle.codec.specs.Refcounts.{staging, block}
 use Rattle.codec.specs.declared.refcount.Refcount.{Refcount}
-use Rattle.codec.specs.declared.free_extent.FreeExtent.{FreeExtent}
-use Rattle.codec.proofs.Meaning.{done-means}
 use Rattle.codec.proofs.RecordKinds.{refcounts-lawful}
 use Rattle.codec.proofs.ListBytes.{storable-recordsOf, isBytes-bytesOf}
 use Rattle.lists.specs.Extent as extent
 use Rattle.lists.specs.Extent.{over, within, goodExtent}
-use Rattle.lists.specs.Release.{owners, clear, unshared, stop, piece, middle, clamp, lowered, lowerAll, alike, continues, joined, joinFrom, joinAll, release}
+use Rattle.lists.specs.Release.{owners, clear, stop, piece, share, fewer, clamp, lowered, lowerAll, sameKind, continues, joined, joinFrom, joinAll, release}
 use Rattle.lists.specs.Raise.{raised, raiseAll, raise, full, ownersFit, raiseOutcome}
-use Rattle.lists.specs.Edits.{countQuestions, fits, Freed, releaseOutcome}
+use Rattle.lists.specs.Edits.{Freed, releaseOutcome}
 use Rattle.lists.specs.Settled.{PartedFrom, Parted, staged, Settled, EveryRelease, EveryRaise}
-use Rattle.lists.proofs.Cases.{split, tests, conj, over-facts, facts-over, within-in, within-right, within-not}
+use Rattle.lists.proofs.Done.{release-done, raise-done}
+use Rattle.lists.proofs.Cases.{split, tests, over-facts, facts-over, within-in, within-right, within-not}
 use Rattle.lists.proofs.Counts as C
 use Rattle.lists.proofs.Counts.{OfKind, From, at, lower, release-at, release-from}
 use Rattle.lists.proofs.Raising.{lift-high, raise-at, raise-from}
@@ -43,7 +42,7 @@ parted-from q r (s ∷ l) h =
     (λ e. rw e (h, parted-from r s l e))
   where
     joined-starts : (q r s : Refcount) → continues q r ≡ false → continues q (joined r s) ≡ false
-    joined-starts q r s h = unfold continues alike staging in h
+    joined-starts q r s h = unfold continues sameKind staging in h
 
 -- the same of the first
 parted-first : (r : Refcount) (l : List Refcount) → Parted (joinFrom r l)
@@ -136,36 +135,17 @@ module _ (start count : ℕ) (l : List Refcount) (end : start + count ≤ 2 ^ 31
 -- ---- over lent bytes
 
 pub release-settled : EveryRelease
-unfolding releaseOutcome goodExtent
 release-settled c start count room freeRoom r h e =
     let l : List Refcount = recordsOf refcounts c in
-    let after : List Refcount = release start (start + count) l in
-    let free : List FreeExtent = unshared l start count in
-    let k = done-means
-    (countQuestions c
-    ++ (ask 22 (goodExtent start count)
-    ∷ ask 25 (clear start (start + count) l)
-    ∷ ask 26 (fits refcounts after room && fits freeExtents free freeRoom)
-    ∷ []))
-    (record { counts = after; free = free }) r e in
-    let q = k .0 in
-    let g : (ltb 0 count && leb (start + count) (2 ^ 31)) ≡ true = q .1 .1 .0 in
-    let u : leb (start + count) (2 ^ 31) ≡ true = search conj in
-    subst (λ (r : Freed). Settled l (r .counts)) (k .1)
-    (release-settles start count l (omega tests) (q .1 .0) (storable-recordsOf refcounts refcounts-lawful c h))
+    let q = release-done c start count room freeRoom r e in
+    subst (λ (r : Freed). Settled l (r .counts)) (q .2)
+    (release-settles start count l (q .0) (q .1) (storable-recordsOf refcounts refcounts-lawful c h))
 
 pub raise-settled : EveryRaise
-unfolding raiseOutcome goodExtent
 raise-settled c start count m h e =
     let l : List Refcount = recordsOf refcounts c in
-    let k = done-means
-    (countQuestions c ++ (ask 22 (goodExtent start count) ∷ ask 25 (clear start (start + count) l) ∷ ask 28 (ownersFit start (start + count) l) ∷ []))
-    (raise start (start + count) l) m e in
-    let q = k .0 in
-    let g : (ltb 0 count && leb (start + count) (2 ^ 31)) ≡ true = q .1 .1 .0 in
-    let u : leb (start + count) (2 ^ 31) ≡ true = search conj in
-    subst (Settled l) (k .1)
-    (raise-settles start count l (omega tests) (q .1 .0) (storable-recordsOf refcounts refcounts-lawful c h))
+    let q = raise-done c start count m e in
+    subst (Settled l) (q .3) (raise-settles start count l (q .0) (q .1) (storable-recordsOf refcounts refcounts-lawful c h))
 
 -- ---- instances
 
@@ -182,7 +162,7 @@ abbrev after : List Refcount
 after = countOf 0 8 2 ∷ countOf (2 ^ 31 + 20) 2 1 ∷ []
 
 row : releaseOutcome (bytesOf refcounts before) 0 4 24 0 ≡ done (record { counts = after; free = [] })
-unfolding releaseOutcome goodExtent bytes.beOf bytes.beBytes records.fieldsOf records.fieldBytes records.firstRecords records.recordsOf records.bytesOf accepted.whole accepted.inOrder refcount.staging refcount.good refcount.follows over within extent.grow extent.runs owners clear piece middle clamp lowered lowerAll alike continues joinFrom joinAll
+unfolding releaseOutcome goodExtent bytes.beOf bytes.beBytes records.fieldsOf records.fieldBytes records.firstRecords records.recordsOf records.bytesOf accepted.whole accepted.inOrder refcount.staging refcount.good refcount.follows over within extent.grow extent.runs owners clear piece share fewer clamp lowered lowerAll sameKind continues joinFrom joinAll
 row = refl
 
 pub row-settled : Settled (recordsOf refcounts (bytesOf refcounts before)) after
@@ -193,7 +173,7 @@ abbrev lifted : List Refcount
 lifted = countOf 0 4 2 ∷ countOf 4 4 3 ∷ countOf (2 ^ 31 + 20) 2 1 ∷ []
 
 raise-row : raiseOutcome (bytesOf refcounts after) 4 4 ≡ done lifted
-unfolding raiseOutcome goodExtent bytes.beOf bytes.beBytes records.fieldsOf records.fieldBytes records.firstRecords records.recordsOf records.bytesOf accepted.whole accepted.inOrder refcount.staging refcount.good refcount.follows over within clear piece clamp alike continues joinFrom joinAll raised raiseAll full ownersFit
+unfolding raiseOutcome goodExtent bytes.beOf bytes.beBytes records.fieldsOf records.fieldBytes records.firstRecords records.recordsOf records.bytesOf accepted.whole accepted.inOrder refcount.staging refcount.good refcount.follows over within clear piece clamp sameKind continues joinFrom joinAll raised raiseAll full ownersFit
 raise-row = refl
 
 pub raise-row-settled : Settled (recordsOf refcounts (bytesOf refcounts after)) lifted

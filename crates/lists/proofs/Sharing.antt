@@ -11,9 +11,11 @@ use lib.ListN.{length, getD, take, drop, length-drop}
 use lib.Seq.{drop-drop}
 use Rattle.codec.specs.Rmaps.{end, before, follows, least}
 use Rattle.codec.specs.declared.rmap.Rmap.{Rmap}
-use Rattle.lists.specs.declared.rmap_plans.Joined.{Joined}
+use Rattle.lists.specs.declared.findings.Joined.{Joined}
 use Rattle.lists.specs.RmapEdits.{first, replace, nothing, place, continues, joined, attach, insert, behind, ahead, shareBefore, shareAfter, insertShared}
-use Rattle.lists.specs.RmapPlans.{indexWhere, seat, joinAt, previous, run}
+use Rattle.lists.specs.Splice.{between}
+use Rattle.lists.specs.inner.Searches.{indexWhere, seat}
+use Rattle.lists.specs.inner.Splicing.{joinAt, previous}
 use Rattle.lists.proofs.Cases.{split, tests}
 use Rattle.lists.proofs.Found.{continues-end, replace-none}
 use Rattle.lists.proofs.Index.{index-le, index-passes, index-same, index-drop, first-some, first-none, take-out, first-out, take-two}
@@ -79,14 +81,14 @@ past y z r k n e = le-not-before z r (byStart (omega (arith, continues-end y r e
 
 -- the records behind a place, two left out
 from-two : (l : List Rmap) (p i j : ℕ) → p ≤ i → i < j
-    → take (i - p) (drop p l) ++ take (j - p - suc (i - p)) (drop (suc (i - p)) (drop p l)) ++ drop (suc (j - p)) (drop p l) ≡ run l p i ++ run l (i + 1) j ++ drop (j + 1) l
+    → take (i - p) (drop p l) ++ take (j - p - suc (i - p)) (drop (suc (i - p)) (drop p l)) ++ drop (suc (j - p)) (drop p l) ≡ between l p i ++ between l (i + 1) j ++ drop (j + 1) l
 from-two l p i j h k =
     let a : p + suc (i - p) ≡ i + 1 = omega arith in
     let b : j - p - suc (i - p) ≡ j - (i + 1) = omega arith in
     let c : p + suc (j - p) ≡ j + 1 = omega arith in
     rw (drop-drop (suc (i - p)) p l, drop-drop (suc (j - p)) p l, a, b, c) refl
 
-from-one : (l : List Rmap) (p j : ℕ) → p ≤ j → take (j - p) (drop p l) ++ drop (suc (j - p)) (drop p l) ≡ run l p j ++ drop (j + 1) l
+from-one : (l : List Rmap) (p j : ℕ) → p ≤ j → take (j - p) (drop p l) ++ drop (suc (j - p)) (drop p l) ≡ between l p j ++ drop (j + 1) l
 from-one l p j h =
     let c : p + suc (j - p) ≡ j + 1 = omega arith in
     rw (drop-drop (suc (j - p)) p l, c) refl
@@ -131,7 +133,7 @@ module _ (x : Rmap) (l : List Rmap) (acc : Accepted l) (i : ℕ) (ei : i ≡ low
       let k = high-key l j y in
       seat-at z l i hi (le-not-before z (getD l i least) (byOffset (k .0) (k .1) (rw (k .2) (omega arith))))
 
-  pub share-joined : insertShared x l ≡ take (seat z l) l ++ (z ∷ (run l (seat z l) i ++ run l (i + 1) j ++ drop (j + 1) l))
+  pub share-joined : insertShared x l ≡ take (seat z l) l ++ (z ∷ (between l (seat z l) i ++ between l (i + 1) j ++ drop (j + 1) l))
   share-joined =
       let p : ℕ = seat z l in
       let m : List Rmap = replace (λ r. continues r x) nothing l in
@@ -141,7 +143,7 @@ module _ (x : Rmap) (l : List Rmap) (acc : Accepted l) (i : ℕ) (ei : i ≡ low
       let fits : p ≤ lowIndex x l = rw (← ei) seat-before-low in
       let dq : lowIndex x (drop p l) ≡ i - p = index-drop (λ r. continues r x) l p fits ∙ rw (← ei) refl in
       let dp : highIndex y (drop p l) ≡ j - p = index-drop (continues y) l p (omega (arith, seat-before-low, low-before-high)) in
-      let two : replace (continues y) nothing (replace (λ r. continues r x) nothing (drop p l)) ≡ run l p i ++ run l (i + 1) j ++ drop (j + 1) l =
+      let two : replace (continues y) nothing (replace (λ r. continues r x) nothing (drop p l)) ≡ between l p i ++ between l (i + 1) j ++ drop (j + 1) l =
       take-two (continues y) (λ r. continues r x) (drop p l) (omega (arith, seat-before-low, low-before-high, dq, dp))
       ∙ rw (dq, dp) (from-two l p i j seat-before-low low-before-high) in
       ap (λ (w : Rmap). shareAfter w m) low
@@ -164,7 +166,7 @@ module _ (x : Rmap) (l : List Rmap) (acc : Accepted l) (gx : 0 < x .blockcount) 
       seat-at z₀ l j₀ lt (past x z₀ (getD l j₀ least) (high-key l j₀ x .0) gx (index-passes (continues x) l lt)))
       (λ e. omega (tests, index-le (follows z₀) l))
 
-  pub share-alone : insertShared x l ≡ take (seat z₀ l) l ++ (z₀ ∷ (run l (seat z₀ l) j₀ ++ drop (j₀ + 1) l))
+  pub share-alone : insertShared x l ≡ take (seat z₀ l) l ++ (z₀ ∷ (between l (seat z₀ l) j₀ ++ drop (j₀ + 1) l))
   share-alone =
       let p : ℕ = seat z₀ l in
       let m : List Rmap = replace (λ r. continues r x) nothing l in
@@ -173,7 +175,7 @@ module _ (x : Rmap) (l : List Rmap) (acc : Accepted l) (gx : 0 < x .blockcount) 
       let same : m ≡ l = replace-none (λ r. continues r x) nothing l (first-none (λ r. continues r x) l hi) in
       let dq : lowIndex x (drop p l) ≡ lowIndex x l - p = index-drop (λ r. continues r x) l p (omega arith) in
       let dp : highIndex x (drop p l) ≡ j₀ - p = index-drop (continues x) l p seat-before-high in
-      let one : replace (continues x) nothing (replace (λ r. continues r x) nothing (drop p l)) ≡ run l p j₀ ++ drop (j₀ + 1) l =
+      let one : replace (continues x) nothing (replace (λ r. continues r x) nothing (drop p l)) ≡ between l p j₀ ++ drop (j₀ + 1) l =
       ap (replace (continues x) nothing)
       (replace-none (λ r. continues r x) nothing (drop p l) (first-none (λ r. continues r x) (drop p l) (omega (arith, dq, length-drop p l))))
       ∙ take-out (continues x) (drop p l)

@@ -12,30 +12,32 @@ use Rattle.lists.specs.Release.{stop}
 use Rattle.lists.specs.Raise.{full}
 use Rattle.lists.proofs.Cases.{tests, conj}
 
+pub not-staging : (r : Refcount) → r .startblock < 2 ^ 31 → staging r ≡ false
+unfolding staging
+not-staging r h = lt-leb (2 ^ 31) (r .startblock) h
+
 module _ (r : Refcount) (s e : ℕ) where
-  pub unstaged : r .startblock < 2 ^ 31 → false ≡ (staging r && (ltb (block r) e && ltb s (end r)))
-  unfolding staging
-  unstaged h = rw (lt-leb (2 ^ 31) (r .startblock) h) refl
+  pub unstaged : staging r ≡ false → false ≡ (staging r && (ltb (block r) e && ltb s (end r)))
+  unstaged h = rw h refl
 
   pub staged-later : e ≤ block r → false ≡ (staging r && (ltb (block r) e && ltb s (end r)))
   staged-later h = rw (le-ltb (block r) e h) (sym (and-false (staging r)))
 
-  pub staged-end : 2 ^ 31 ≤ r .startblock → block r < e → ltb s (end r) ≡ (staging r && (ltb (block r) e && ltb s (end r)))
-  unfolding staging
-  staged-end h k = rw (le-leb (2 ^ 31) (r .startblock) h, lt-ltb (block r) e k) refl
+  pub staged-end : staging r ≡ true → block r < e → (n : ℕ) → n ≡ end r → ltb s n ≡ (staging r && (ltb (block r) e && ltb s (end r)))
+  staged-end h k n p = rw (p, h, lt-ltb (block r) e k) refl
 
 module _ (r : Refcount) (s e : ℕ) where
   pub full-not : r .refcount < 2 ^ 32 - 1 → false ≡ full s e r
   unfolding full
   full-not h = rw (lt-leb (2 ^ 32 - 1) (r .refcount) h) refl
 
-  pub full-staging : 2 ^ 31 ≤ r .startblock → false ≡ full s e r
-  unfolding full staging
-  full-staging h = rw (le-leb (2 ^ 31) (r .startblock) h) (sym (and-false (leb (2 ^ 32 - 1) (r .refcount))))
+  pub full-staging : staging r ≡ true → false ≡ full s e r
+  unfolding full
+  full-staging h = rw h (sym (and-false (leb (2 ^ 32 - 1) (r .refcount))))
 
-  pub full-by : 2 ^ 32 - 1 ≤ r .refcount → r .startblock < 2 ^ 31 → (ltb s (stop r) && ltb (r .startblock) e) ≡ full s e r
-  unfolding full staging
-  full-by h k = rw (le-leb (2 ^ 32 - 1) (r .refcount) h, lt-leb (2 ^ 31) (r .startblock) k) refl
+  pub full-by : 2 ^ 32 - 1 ≤ r .refcount → staging r ≡ false → (ltb s (stop r) && ltb (r .startblock) e) ≡ full s e r
+  unfolding full
+  full-by h k = rw (le-leb (2 ^ 32 - 1) (r .refcount) h, k) refl
 
 pub clear-met : (c t : Bool) → t ≡ true → false ≡ (c && not t)
 clear-met c t h = rw h (sym (and-false c))

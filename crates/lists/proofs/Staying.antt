@@ -16,44 +16,44 @@ use Rattle.codec.specs.Refcounts.{staging, end, good, follows}
 use Rattle.codec.specs.declared.refcount.Refcount.{Refcount}
 use Rattle.codec.proofs.RecordLists.{length-bytesOf, bytesOf-append, length-recordsOf}
 use Rattle.codec.proofs.RecordKinds.{refcounts-lawful}
-use Rattle.lists.specs.declared.join.Joiner.{Joiner}
-use Rattle.lists.specs.declared.pass.Walk.{Walk}
-use Rattle.lists.specs.Release.{stop}
+use Rattle.lists.specs.declared.carried.Joiner.{Joiner}
+use Rattle.lists.specs.declared.carried.Carried.{Carried}
+use Rattle.lists.specs.Release.{stop, share}
 use Rattle.lists.specs.Raise.{full}
-use Rattle.lists.specs.Passes.{putIf, pending, goesOn, fresh, share, changed, changedFrom, Room, Cut, Pushed, StepAsks, Stepped}
-use Rattle.lists.specs.Steps.{Passable}
-use Rattle.lists.specs.Staying.{Stays, AllStay, part, behind, Unchanged, gone, goneBy, GoneAsks, Gone}
+use Rattle.lists.specs.Splice.{between}
+use Rattle.lists.specs.inner.Passes.{putIf, pending, goesOn, fresh, changed, changedFrom, Room, Cut, Pushed, StepAsks, Stepped, Passable}
+use Rattle.lists.specs.inner.Staying.{Stays, AllStay, behind, Unchanged, skipped, skippedBy, SkipAsks, Skipped}
 use Rattle.lists.proofs.Cases.{split, tests}
 use Rattle.lists.proofs.Places.{follows-place, follows-least}
-use Rattle.lists.proofs.Staged.{unstaged, clear-on}
+use Rattle.lists.proofs.Staged.{unstaged, clear-on, not-staging}
 use Rattle.lists.proofs.Puts.{put-put, length-put}
 use Rattle.lists.proofs.CountJoins.{pending-some, pending-room, room-for, share-none, push-next, whole-pushed, meets-not}
-use Rattle.lists.proofs.FreeRuns.{run-none}
-use Rattle.lists.proofs.Writing.{run-bytes}
-use Rattle.lists.proofs.Passing.{next, storable, Passed, Walking, Rooms, step-asks, walking-step, rooms-of}
+use Rattle.lists.proofs.FreeGaps.{gap-none}
+use Rattle.lists.proofs.Writing.{between-bytes}
+use Rattle.lists.proofs.Passing.{next, storable, Passed, Carrying, Rooms, step-asks, carrying-step, rooms-of}
 
 abbrev C : List Refcount → List ℕ
 C l = bytesOf refcounts l
 
 -- ---- parts of a list
 
-pub part-empty : (l : List Refcount) (i j : ℕ) → j ≤ i → part l i j ≡ []
-part-empty l i j h = let n : j - i ≡ 0 = omega arith in ap (λ (n : ℕ). take n (drop i l)) n
+pub between-empty : (l : List Refcount) (i j : ℕ) → j ≤ i → between l i j ≡ []
+between-empty l i j h = let n : j - i ≡ 0 = omega arith in ap (λ (n : ℕ). take n (drop i l)) n
 
 -- one record more
-pub part-next : (l : List Refcount) (i j : ℕ) (r : Refcount) (m : List Refcount) → i ≤ j → drop j l ≡ r ∷ m → part l i (j + 1) ≡ part l i j ++ (r ∷ [])
-part-next l i j r m h e =
+pub between-next : (l : List Refcount) (i j : ℕ) (r : Refcount) (m : List Refcount) → i ≤ j → drop j l ≡ r ∷ m → between l i (j + 1) ≡ between l i j ++ (r ∷ [])
+between-next l i j r m h e =
     let n : (j + 1) - i ≡ (j - i) + 1 = omega arith in
     let k : i + (j - i) ≡ j = omega arith in
     ap (λ (n : ℕ). take n (drop i l)) n
     ∙ take-add (j - i) 1 (drop i l)
-    ∙ ap (λ (x : List Refcount). part l i j ++ take 1 x) (drop-drop (j - i) i l ∙ ap (λ (n : ℕ). drop n l) k ∙ e)
+    ∙ ap (λ (x : List Refcount). between l i j ++ take 1 x) (drop-drop (j - i) i l ∙ ap (λ (n : ℕ). drop n l) k ∙ e)
 
 -- what stands behind it
-pub part-rest : (l : List Refcount) (i j : ℕ) → i ≤ j → drop i l ≡ part l i j ++ drop j l
-part-rest l i j h =
+pub between-rest : (l : List Refcount) (i j : ℕ) → i ≤ j → drop i l ≡ between l i j ++ drop j l
+between-rest l i j h =
     let k : i + (j - i) ≡ j = omega arith in
-    sym (take-append-drop (j - i) (drop i l)) ∙ ap (λ (x : List Refcount). part l i j ++ x) (drop-drop (j - i) i l ∙ ap (λ (n : ℕ). drop n l) k)
+    sym (take-append-drop (j - i) (drop i l)) ∙ ap (λ (x : List Refcount). between l i j ++ x) (drop-drop (j - i) i l ∙ ap (λ (n : ℕ). drop n l) k)
 
 -- the part up to the record before j, and that record
 module _ (b : List ℕ) (i j : ℕ) (r : Refcount) (some : i < j) (inside : j ≤ length b / 12) (read : r ≡ refcounts .decode (bytesAt b ((j - 1) * 12) 12)) where
@@ -63,33 +63,33 @@ module _ (b : List ℕ) (i j : ℕ) (r : Refcount) (some : i < j) (inside : j �
   last-next : drop (j - 1) records ≡ r ∷ drop j records
   last-next = let k : (j - 1) + 1 ≡ j = omega arith in next b (j - 1) r (omega arith) read ∙ ap (λ (n : ℕ). r ∷ drop n records) k
 
-  pub part-last : part records i j ≡ part records i (j - 1) ++ (r ∷ [])
-  part-last =
+  pub between-last : between records i j ≡ between records i (j - 1) ++ (r ∷ [])
+  between-last =
       let k : j ≡ (j - 1) + 1 = omega arith in
-      ap (part records i) k ∙ part-next records i (j - 1) r (drop j records) (omega arith) last-next
+      ap (between records i) k ∙ between-next records i (j - 1) r (drop j records) (omega arith) last-next
 
-  pub length-front : length (C (part records i (j - 1))) ≡ (j - 1 - i) * 12
+  pub length-front : length (C (between records i (j - 1))) ≡ (j - 1 - i) * 12
   length-front =
-      let n : length (part records i (j - 1)) ≡ j - 1 - i = simp (length-take, length-drop) (omega (arith, length-recordsOf refcounts b)) in
-      length-bytesOf refcounts refcounts-lawful (part records i (j - 1)) ∙ ap (λ (n : ℕ). n * 12) n
+      let n : length (between records i (j - 1)) ≡ j - 1 - i = simp (length-take, length-drop) (omega (arith, length-recordsOf refcounts b)) in
+      length-bytesOf refcounts refcounts-lawful (between records i (j - 1)) ∙ ap (λ (n : ℕ). n * 12) n
 
 -- ---- a run that stays, record by record
 
 module _ (l : List Refcount) (i z n s high : ℕ) where
-  pub none-stay : AllStay z n s high (part l i i)
-  none-stay = rw (part-empty l i i (omega arith)) tt
+  pub none-stay : AllStay z n s high (between l i i)
+  none-stay = rw (between-empty l i i (omega arith)) tt
 
-  pub stay-start : (m : List Refcount) → AllStay z n s high m → AllStay z n s high (part l i i ++ m)
-  stay-start m h = rw (part-empty l i i (omega arith)) h
+  pub stay-start : (m : List Refcount) → AllStay z n s high m → AllStay z n s high (between l i i ++ m)
+  stay-start m h = rw (between-empty l i i (omega arith)) h
 
   -- z′ and n′ are those behind the records up to j
-  module _ (j z′ n′ : ℕ) (stay : (m : List Refcount) → AllStay z′ n′ s high m → AllStay z n s high (part l i j ++ m)) where
+  module _ (j z′ n′ : ℕ) (stay : (m : List Refcount) → AllStay z′ n′ s high m → AllStay z n s high (between l i j ++ m)) where
     pub stay-next : (r : Refcount) (rest : List Refcount) → i ≤ j → drop j l ≡ r ∷ rest → Stays z′ n′ s high r
-        → (m : List Refcount) → AllStay (stop r) (r .refcount) s high m → AllStay z n s high (part l i (j + 1) ++ m)
-    stay-next r rest h e t m k = rw (part-next l i j r rest h e, append-assoc (part l i j) (r ∷ []) m) (stay (r ∷ m) (t, k))
+        → (m : List Refcount) → AllStay (stop r) (r .refcount) s high m → AllStay z n s high (between l i (j + 1) ++ m)
+    stay-next r rest h e t m k = rw (between-next l i j r rest h e, append-assoc (between l i j) (r ∷ []) m) (stay (r ∷ m) (t, k))
 
-    pub stay-done : AllStay z n s high (part l i j)
-    stay-done = rw (append-nil (part l i j)) at (stay [] tt)
+    pub stay-done : AllStay z n s high (between l i j)
+    stay-done = rw (append-nil (between l i j)) at (stay [] tt)
 
 -- ---- one record that stays
 
@@ -129,8 +129,8 @@ unfolding behind
 behind-before gap e h = rw (lt-leb e gap h) refl
 
 -- what is carried behind r alone
-abbrev one : Walk → Refcount → Walk
-one w r = gone w r (w .joiner .at + length (C (pending (w .joiner)))) (max (w .gap) (stop r))
+abbrev one : Carried → Refcount → Carried
+one w r = skipped w r (w .joiner .at + length (C (pending (w .joiner)))) (max (w .gap) (stop r))
 
 C-append : (p l : List Refcount) → length (C (p ++ l)) ≡ length (C p) + length (C l)
 C-append p l = ap length (bytesOf-append refcounts refcounts-lawful p l) ∙ length-append (C p) (C l)
@@ -140,7 +140,7 @@ stops-rise [] r z n s high t = omega (arith, t .0 .after)
 stops-rise (x ∷ l) r z n s high t = omega (arith, t .0 .after, stops-rise l r (stop x) (x .refcount) s high (t .1))
 
 module _ (up write list : Bool) (all : List Refcount) (s e : ℕ) (new₀ free₀ : List ℕ) (free : List ℕ) (rooms : Rooms up write list all s e (length new₀) (length free₀)) (high : ℕ) where
-  module _ (new : List ℕ) (w : Walk) (r : Refcount) (m : List Refcount) (walking : Walking up write list all s e new₀ free₀ new free w (r ∷ m))
+  module _ (new : List ℕ) (w : Carried) (r : Refcount) (m : List Refcount) (carrying : Carrying up write list all s e new₀ free₀ new free w (r ∷ m))
       (ahead : Ahead e high (w .gap)) (t : Stays (stop (w .prev)) (w .joiner .owners) s high r) where
     small : r .startblock < 2 ^ 32
     small = omega (arith, t .end)
@@ -149,20 +149,20 @@ module _ (up write list : Bool) (all : List Refcount) (s e : ℕ) (new₀ free�
     is-good = stays-good _ _ s high r t
 
     is-after : follows (w .prev) r ≡ true
-    is-after = stays-follows (w .prev) r (walking .prev) small (t .after)
+    is-after = stays-follows (w .prev) r (carrying .prev) small (t .after)
 
     asks : StepAsks up write list s e w r (length new) (length free)
-    asks = step-asks up write list all s e new₀ free₀ new free w rooms r (r ∷ m) m refl walking small (t .few) is-good is-after
+    asks = step-asks up write list all s e new₀ free₀ new free w rooms r (r ∷ m) m refl carrying small (t .few) is-good is-after
 
     unmet : (ltb s (stop r) && ltb (r .startblock) e) ≡ false
     unmet = ⊎-elim (λ h. sym (meets-not (r .startblock) (stop r) s e h)) (λ h. rw (le-ltb (r .startblock) e (omega (arith, ahead .0))) (and-false (ltb s (stop r)))) (t .off)
 
-    no-run : min (r .startblock) e ≤ w .gap
-    no-run = ⊎-elim (λ h. omega (arith, walking .low)) (λ h. omega (arith, ahead .1 (omega (arith, t .end)))) (t .off)
+    no-gap : min (r .startblock) e ≤ w .gap
+    no-gap = ⊎-elim (λ h. omega (arith, carrying .low)) (λ h. omega (arith, ahead .1 (omega (arith, t .end)))) (t .off)
 
     -- no block before r is filled
     alone : changedFrom up s e (w .gap) r ≡ changed up s e r
-    alone = rw (share-none (w .gap) (min (r .startblock) e) (fresh up) no-run) refl
+    alone = rw (share-none (w .gap) (min (r .startblock) e) (fresh up) no-gap) refl
 
     cut : Cut up write s e (w .joiner) r (length new)
     cut =
@@ -196,31 +196,31 @@ module _ (up write list : Bool) (all : List Refcount) (s e : ℕ) (new₀ free�
         (whole-pushed up write s e (w .joiner) r new c unmet _ _
         (subst (λ (n : ℕ). Pushed write (w .joiner) new (share (r .startblock) (stop r) (r .refcount)) (stop r) (record { start = r .startblock; count = n; owners = r .refcount; at = at }) out) q
         (push-next write (w .joiner) (r .startblock) (stop r) (r .refcount) (omega (arith, t .some)) (c .owned) (c .lies) (c .fits) (c .behind) new out at room
-        (apart-goes (w .joiner) (stop (w .prev)) (r .startblock) (r .refcount) (walking .behind) (t .after) (t .apart)) refl refl)))
+        (apart-goes (w .joiner) (stop (w .prev)) (r .startblock) (r .refcount) (carrying .behind) (t .after) (t .apart)) refl refl)))
 
     stepped : Stepped up write list s e w r new free (one w r) (putIf write new (w .joiner .at) (C (pending (w .joiner)))) free
     stepped =
-        let f = run-none list free (w .free) (w .gap) (min (r .startblock) e) no-run in
+        let f = gap-none list free (w .free) (w .gap) (min (r .startblock) e) no-gap in
         record {
           prev = refl;
           joiner = pushed;
           gap = refl;
           place = f .0;
           bytes = f .1;
-          clear = clear-on (w .clear) _ (sym (unstaged r s e (omega (arith, t .end, t .some))));
+          clear = clear-on (w .clear) _ (sym (unstaged r s e (not-staging r (omega (arith, t .end, t .some)))));
           fit = clear-on (w .fit) _ unfilled;
         }
 
-    pub by-one : Walking up write list all s e new₀ free₀ (putIf write new (w .joiner .at) (C (pending (w .joiner)))) free (one w r) m
-    by-one = walking-step up write list all s e new₀ free₀ new free w rooms r (r ∷ m) m refl walking small (t .few) is-good is-after (one w r) _ free (length-put write new (w .joiner .at) _ roomy) refl stepped
+    pub by-one : Carrying up write list all s e new₀ free₀ (putIf write new (w .joiner .at) (C (pending (w .joiner)))) free (one w r) m
+    by-one = carrying-step up write list all s e new₀ free₀ new free w rooms r (r ∷ m) m refl carrying small (t .few) is-good is-after (one w r) _ free (length-put write new (w .joiner .at) _ roomy) refl stepped
 
   -- behind the records l and then r
-  pub run-on : (l : List Refcount) (r : Refcount) (m : List Refcount) (new : List ℕ) (w : Walk) → Walking up write list all s e new₀ free₀ new free w (l ++ (r ∷ m))
+  pub run-on : (l : List Refcount) (r : Refcount) (m : List Refcount) (new : List ℕ) (w : Carried) → Carrying up write list all s e new₀ free₀ new free w (l ++ (r ∷ m))
       → Ahead e high (w .gap) → AllStay (stop (w .prev)) (w .joiner .owners) s high (l ++ (r ∷ []))
-      → Walking up write list all s e new₀ free₀ (putIf write new (w .joiner .at) (C (pending (w .joiner) ++ l))) free (goneBy w l r) m
-  run-on [] r m new w walking ahead t = rw (append-nil (pending (w .joiner))) (by-one new w r m walking ahead (t .0))
-  run-on (x ∷ l) r m new w walking ahead t =
-      let step = by-one new w x (l ++ (r ∷ m)) walking ahead (t .0) in
+      → Carrying up write list all s e new₀ free₀ (putIf write new (w .joiner .at) (C (pending (w .joiner) ++ l))) free (skippedBy w l r) m
+  run-on [] r m new w carrying ahead t = rw (append-nil (pending (w .joiner))) (by-one new w r m carrying ahead (t .0))
+  run-on (x ∷ l) r m new w carrying ahead t =
+      let step = by-one new w x (l ++ (r ∷ m)) carrying ahead (t .0) in
       let at : ℕ = w .joiner .at + length (C (pending (w .joiner))) in
       let out : List ℕ = putIf write new (w .joiner .at) (C (pending (w .joiner))) in
       let rest = run-on l r m out (one w x) step (ahead .0, λ u. omega (arith, ahead .1 u)) (t .1) in
@@ -230,31 +230,32 @@ module _ (up write list : Bool) (all : List Refcount) (s e : ℕ) (new₀ free�
       let g : max (max (w .gap) (stop x)) (stop r) ≡ max (w .gap) (stop r) = omega (arith, stops-rise l r (stop x) (x .refcount) s high (t .1)) in
       let b : putIf write out at (C (pending (one w x .joiner) ++ l)) ≡ putIf write new (w .joiner .at) (C (pending (w .joiner) ++ (x ∷ l))) =
       ap (λ (p : List Refcount). putIf write out at (C p)) q
-      ∙ put-put write new (w .joiner .at) at (C (pending (w .joiner))) (C (x ∷ l)) (roomy new w x (l ++ (r ∷ m)) walking ahead (t .0)) refl
+      ∙ put-put write new (w .joiner .at) at (C (pending (w .joiner))) (C (x ∷ l)) (roomy new w x (l ++ (r ∷ m)) carrying ahead (t .0)) refl
       ∙ ap (putIf write new (w .joiner .at)) (sym (bytesOf-append refcounts refcounts-lawful (pending (w .joiner)) (x ∷ l))) in
-      subst (λ (o : List ℕ). Walking up write list all s e new₀ free₀ o free (goneBy w (x ∷ l) r) m) b
-      (subst (λ (n : ℕ). Walking up write list all s e new₀ free₀ (putIf write out at (C (pending (one w x .joiner) ++ l))) free (gone w r n (max (w .gap) (stop r))) m) a
-      (subst (λ (n : ℕ). Walking up write list all s e new₀ free₀ (putIf write out at (C (pending (one w x .joiner) ++ l))) free (gone w r (at + length (C (pending (one w x .joiner) ++ l))) n) m) g rest))
+      subst (λ (o : List ℕ). Carrying up write list all s e new₀ free₀ o free (skippedBy w (x ∷ l) r) m) b
+      (subst (λ (n : ℕ). Carrying up write list all s e new₀ free₀ (putIf write out at (C (pending (one w x .joiner) ++ l))) free (skipped w r n (max (w .gap) (stop r))) m) a
+      (subst (λ (n : ℕ). Carrying up write list all s e new₀ free₀ (putIf write out at (C (pending (one w x .joiner) ++ l))) free (skipped w r (at + length (C (pending (one w x .joiner) ++ l))) n) m) g rest))
 
 -- ---- the run as the pass goes by it
 
-pub gone-some : (write : Bool) (w : Walk) (b : List ℕ) (i j : ℕ) (new new₁ new₂ : List ℕ) (r : Refcount) (at gap : ℕ) → IsBytes b → i < j → j ≤ length b / 12
+pub skipped-some : (write : Bool) (w : Carried) (b : List ℕ) (i j : ℕ) (new new₁ new₂ : List ℕ) (r : Refcount) (at size gap : ℕ) → IsBytes b → i < j → j ≤ length b / 12 → size ≡ (j - 1 - i) * 12
     → (write ≡ true → w .joiner .at + length (C (pending (w .joiner))) ≤ length new)
     → r ≡ refcounts .decode (bytesAt b ((j - 1) * 12) 12)
     → at ≡ w .joiner .at + length (C (pending (w .joiner))) → new₁ ≡ putIf write new (w .joiner .at) (C (pending (w .joiner)))
-    → new₂ ≡ putIf write new₁ at (bytesAt b (i * 12) ((j - 1 - i) * 12)) → gap ≡ max (w .gap) (stop r)
-    → Gone write w (part (recordsOf refcounts b) i j) new (gone w r (at + (j - 1 - i) * 12) gap) new₂
-gone-some write w b i j new new₁ new₂ r at gap bytes some inside room read qa q₁ q₂ qg =
-    let f : List Refcount = part (recordsOf refcounts b) i (j - 1) in
+    → new₂ ≡ putIf write new₁ at (take size (drop (i * 12) b)) → gap ≡ max (w .gap) (stop r)
+    → Skipped write w (between (recordsOf refcounts b) i j) new (skipped w r (at + size) gap) new₂
+unfolding bytesAt
+skipped-some write w b i j new new₁ new₂ r at size gap bytes some inside qs room read qa q₁ q₂ qg =
+    let f : List Refcount = between (recordsOf refcounts b) i (j - 1) in
     let p : List Refcount = pending (w .joiner) in
-    let same : bytesAt b (i * 12) ((j - 1 - i) * 12) ≡ C f = run-bytes refcounts refcounts-lawful b i (j - 1) (omega arith) (omega arith) bytes in
+    let same : take size (drop (i * 12) b) ≡ C f = ap (λ (k : ℕ). take k (drop (i * 12) b)) qs ∙ between-bytes refcounts refcounts-lawful b i (j - 1) (omega arith) (omega arith) bytes in
     let n : length (C f) ≡ (j - 1 - i) * 12 = length-front b i j r some inside read in
-    let a : at + (j - 1 - i) * 12 ≡ w .joiner .at + length (C (p ++ f)) = omega (arith, C-append p f) in
+    let a : at + size ≡ w .joiner .at + length (C (p ++ f)) = omega (arith, C-append p f) in
     inr (record {
       front = f;
       last = r;
-      run = part-last b i j r some inside read;
-      walk = ap₂ (gone w r) a qg;
+      run = between-last b i j r some inside read;
+      carried = ap₂ (skipped w r) a qg;
       bytes =
           q₂
           ∙ ap₂ (λ (o k : List ℕ). putIf write o at k) q₁ same
@@ -262,41 +263,41 @@ gone-some write w b i j new new₁ new₂ r at gap bytes some inside room read q
           ∙ ap (putIf write new (w .joiner .at)) (sym (bytesOf-append refcounts refcounts-lawful p f));
     })
 
-module _ (up write list : Bool) (b : List ℕ) (start count : ℕ) (new₀ free₀ new free : List ℕ) (w : Walk) (ask : Passable up (recordsOf refcounts b) start count write list (length new₀) (length free₀))
+module _ (up write list : Bool) (b : List ℕ) (start count : ℕ) (new₀ free₀ new free : List ℕ) (w : Carried) (ask : Passable up (recordsOf refcounts b) start count write list (length new₀) (length free₀))
     (bytes : IsBytes b) (i j : ℕ) (order : i ≤ j) (inside : j ≤ length b / 12)
-    (walking : Walking up write list (recordsOf refcounts b) start (start + count) new₀ free₀ new free w (drop i (recordsOf refcounts b)))
-    (stay : Unchanged start (start + count) w (part (recordsOf refcounts b) i j)) where
+    (carrying : Carrying up write list (recordsOf refcounts b) start (start + count) new₀ free₀ new free w (drop i (recordsOf refcounts b)))
+    (stay : Unchanged start (start + count) w (between (recordsOf refcounts b) i j)) where
   rooms : Rooms up write list (recordsOf refcounts b) start (start + count) (length new₀) (length free₀)
   rooms = rooms-of up write list (recordsOf refcounts b) start count new₀ free₀ ask (storable b bytes)
 
-  went : (l : List Refcount) (r : Refcount) → part (recordsOf refcounts b) i j ≡ l ++ (r ∷ [])
-      → Walking up write list (recordsOf refcounts b) start (start + count) new₀ free₀ (putIf write new (w .joiner .at) (C (pending (w .joiner) ++ l))) free (goneBy w l r) (drop j (recordsOf refcounts b))
+  went : (l : List Refcount) (r : Refcount) → between (recordsOf refcounts b) i j ≡ l ++ (r ∷ [])
+      → Carrying up write list (recordsOf refcounts b) start (start + count) new₀ free₀ (putIf write new (w .joiner .at) (C (pending (w .joiner) ++ l))) free (skippedBy w l r) (drop j (recordsOf refcounts b))
   went l r q =
       let m : List Refcount = drop j (recordsOf refcounts b) in
-      let h : Walking up write list (recordsOf refcounts b) start (start + count) new₀ free₀ new free w (l ++ (r ∷ m)) =
-      rw (part-rest (recordsOf refcounts b) i j order, q, append-assoc l (r ∷ []) m) at walking in
+      let h : Carrying up write list (recordsOf refcounts b) start (start + count) new₀ free₀ new free w (l ++ (r ∷ m)) =
+      rw (between-rest (recordsOf refcounts b) i j order, q, append-assoc l (r ∷ []) m) at carrying in
       let t : Unchanged start (start + count) w (l ++ (r ∷ [])) = rw q at stay in
       run-on up write list (recordsOf refcounts b) start (start + count) new₀ free₀ free rooms (behind (w .gap) (start + count)) l r m new w h (behind-ahead (w .gap) (start + count) (rooms .end)) t
 
-  pub gone-asks : GoneAsks write w i j b (length new)
-  gone-asks =
+  pub skip-asks : SkipAsks write w i j b (length new)
+  skip-asks =
       let r : Refcount = refcounts .decode (bytesAt b ((j - 1) * 12) 12) in
-      let f : List Refcount = part (recordsOf refcounts b) i (j - 1) in
+      let f : List Refcount = between (recordsOf refcounts b) i (j - 1) in
       let p : List Refcount = pending (w .joiner) in
       record {
         inside = inside;
-        fits = walking .fits;
-        place = λ h. let k = went f r (part-last b i j r h inside refl) in omega (arith, k .fits .place, k .fits .lies .end, C-append p f, length-front b i j r h inside refl);
+        fits = carrying .fits;
+        place = λ h. let k = went f r (between-last b i j r h inside refl) in omega (arith, k .fits .place, k .fits .lies .end, C-append p f, length-front b i j r h inside refl);
         room =
-            λ u h. let k = went f r (part-last b i j r h inside refl) in
-            omega (arith, k .counts .size, rooms .counts u, walking .counts .kept, C-append p f, length-front b i j r h inside refl);
+            λ u h. let k = went f r (between-last b i j r h inside refl) in
+            omega (arith, k .counts .size, rooms .counts u, carrying .counts .kept, C-append p f, length-front b i j r h inside refl);
       }
 
-  pub gone-on : (k : Walk) (new′ : List ℕ) → Gone write w (part (recordsOf refcounts b) i j) new k new′
-      → Walking up write list (recordsOf refcounts b) start (start + count) new₀ free₀ new′ free k (drop j (recordsOf refcounts b))
-  gone-on k new′ =
+  pub skipped-on : (k : Carried) (new′ : List ℕ) → Skipped write w (between (recordsOf refcounts b) i j) new k new′
+      → Carrying up write list (recordsOf refcounts b) start (start + count) new₀ free₀ new′ free k (drop j (recordsOf refcounts b))
+  skipped-on k new′ =
       ⊎-elim
-      (λ n. let h : Walking up write list (recordsOf refcounts b) start (start + count) new₀ free₀ new free w (drop j (recordsOf refcounts b)) =
-      rw (part-rest (recordsOf refcounts b) i j order, n .0) at walking in
+      (λ n. let h : Carrying up write list (recordsOf refcounts b) start (start + count) new₀ free₀ new free w (drop j (recordsOf refcounts b)) =
+      rw (between-rest (recordsOf refcounts b) i j order, n .0) at carrying in
       rw (n .1, n .2) h)
-      (λ g. rw (g .walk, g .bytes) (went (g .front) (g .last) (g .run)))
+      (λ g. rw (g .carried, g .bytes) (went (g .front) (g .last) (g .run)))

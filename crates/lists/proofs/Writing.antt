@@ -1,23 +1,24 @@
--- Laws of records written one run after another.
+-- Laws of records written one part after another.
 -- Assumes nothing.
-use Prim.Native.Nat.{ℕ, _+_, _-_, _*_, _/_, _≤_, _<_}
+use Prim.Native.Nat.{ℕ, _+_, _-_, _*_, _/_, _≤_}
 use native.Mathlib.Nat.{add-zero, add-mul, le-div-iff-mul-le}
 use native.Mathlib.Omega.{arith}
 use mathlib.Core.Path.{_≡_, refl, sym, ap, ap₂, _∙_}
 use mathlib.Core.Bool.{Bool, true, false, cond}
 use mathlib.Core.List.{List, [], _∷_, _++_, append-nil}
-use lib.ListN.{length, getD, set, take, drop, length-append, length-take, length-drop, take-append-drop}
+use lib.ListN.{length, take, drop, length-append, length-take, length-drop, take-append-drop}
 use lib.Seq.{take-at, drop-at, take-all}
 use Rattle.codec.specs.Bytes.{IsBytes, bytesAt, withBytes}
 use Rattle.codec.specs.Records.{Kind, firstRecords, recordsOf, bytesOf, rmaps}
 use Rattle.codec.specs.declared.rmap.Rmap.{Rmap}
-use Rattle.codec.proofs.Parts.{length-bytesAt, bytesAt-add, bytesAt-one, length-withBytes, withBytes-one, withBytes-add}
+use Rattle.codec.proofs.Parts.{withBytes-add}
 use Rattle.codec.proofs.FieldLists.{isBytes-drop}
 use Rattle.codec.proofs.RecordLists.{Lawful, length-firstRecords, length-recordsOf, firstRecords-add, length-bytesOf, bytesOf-append, bytesOf-firstRecords}
 use Rattle.codec.proofs.RecordKinds.{rmaps-lawful}
-use Rattle.lists.specs.declared.rmap_plans.Part.{Part}
-use Rattle.lists.specs.declared.rmap_plans.Plan.{Plan}
-use Rattle.lists.specs.RmapPlans.{run, pieceOf, partOf, partsOf, listOf, partCount, PartsGood, PlanGood, Wrote}
+use Rattle.lists.specs.declared.splice.Part.{Part}
+use Rattle.lists.specs.declared.splice.Splice.{Splice}
+use Rattle.lists.specs.Splice.{between, pieceOf, partOf, partsOf, listOf, partCount, PartsGood, SpliceGood}
+use Rattle.lists.specs.inner.Splicing.{Wrote}
 
 -- ---- bytes copied
 
@@ -25,29 +26,12 @@ pub withBytes-nil : (l : List ℕ) (at : ℕ) → withBytes l at [] ≡ l
 unfolding withBytes
 withBytes-nil l at = rw (append-nil (take at l), add-zero at) (take-append-drop at l)
 
-pub copy-none : (o old : List ℕ) (to from : ℕ) → o ≡ withBytes o to (bytesAt old from 0)
-unfolding bytesAt
-copy-none o old to from = sym (withBytes-nil o to)
-
--- one byte more
-pub copy-step : (o o₁ old : List ℕ) (to from j : ℕ) → from + j < length old → to + j < length o → o₁ ≡ withBytes o to (bytesAt old from j)
-    → set o₁ (to + j) (getD old (from + j) 0) ≡ withBytes o to (bytesAt old from (j + 1))
-copy-step o o₁ old to from j h k e =
-    let n : length (bytesAt old from j) ≡ j = length-bytesAt old from j (omega arith) in
-    let fits : to + length (bytesAt old from j) ≤ length o = omega arith in
-    let same : length o₁ ≡ length o = ap length e ∙ length-withBytes o to (bytesAt old from j) fits in
-    let v : ℕ = getD old (from + j) 0 in
-    withBytes-one o₁ (to + j) v (omega arith)
-    ∙ ap₂ (λ (l : List ℕ) (m : ℕ). withBytes l (to + m) (v ∷ [])) e (sym n)
-    ∙ withBytes-add o to (bytesAt old from j) (v ∷ []) fits
-    ∙ ap (withBytes o to) (ap (λ (l : List ℕ). bytesAt old from j ++ l) (sym (bytesAt-one old (from + j) h)) ∙ sym (bytesAt-add old from j 1))
-
--- ---- the bytes of a run of records
+-- ---- the bytes of neighbouring records
 
 module _ {R : Type 0} (k : Kind R) (law : Lawful k) where
-  run-records : (l : List ℕ) (a b : ℕ) → a ≤ b → b ≤ length l / k .size → take (b - a) (drop a (recordsOf k l)) ≡ firstRecords k (b - a) (drop (a * k .size) l)
+  between-records : (l : List ℕ) (a b : ℕ) → a ≤ b → b ≤ length l / k .size → take (b - a) (drop a (recordsOf k l)) ≡ firstRecords k (b - a) (drop (a * k .size) l)
   unfolding recordsOf
-  run-records l a b h g =
+  between-records l a b h g =
       let n : ℕ = length l / k .size in
       let rest : List ℕ = drop (a * k .size) l in
       let e : n ≡ a + ((b - a) + (n - b)) = omega arith in
@@ -57,10 +41,10 @@ module _ {R : Type 0} (k : Kind R) (law : Lawful k) where
       ∙ ap (take (b - a)) (firstRecords-add k (b - a) (n - b) rest)
       ∙ take-at (firstRecords k (b - a) rest) (firstRecords k (n - b) (drop ((b - a) * k .size) rest)) (b - a) (length-firstRecords k (b - a) rest)
 
-  pub run-bytes : (l : List ℕ) (a b : ℕ) → a ≤ b → b ≤ length l / k .size → IsBytes l
+  pub between-bytes : (l : List ℕ) (a b : ℕ) → a ≤ b → b ≤ length l / k .size → IsBytes l
       → bytesAt l (a * k .size) ((b - a) * k .size) ≡ bytesOf k (take (b - a) (drop a (recordsOf k l)))
   unfolding bytesAt
-  run-bytes l a b h g bytes = rw (run-records l a b h g) (sym (bytesOf-firstRecords k law (b - a) (drop (a * k .size) l) fits (isBytes-drop (a * k .size) l bytes)))
+  between-bytes l a b h g bytes = rw (between-records l a b h g) (sym (bytesOf-firstRecords k law (b - a) (drop (a * k .size) l) fits (isBytes-drop (a * k .size) l bytes)))
     where
       fits : (b - a) * k .size ≤ length (drop (a * k .size) l)
       fits =
@@ -70,8 +54,8 @@ module _ {R : Type 0} (k : Kind R) (law : Lawful k) where
           let f : b * s ≡ (a + (b - a)) * s = ap (λ (n : ℕ). n * s) (omega arith) in
           rw length-drop (omega arith)
 
-pub length-run : (l : List Rmap) (a b : ℕ) → a ≤ b → b ≤ length l → length (run l a b) ≡ b - a
-length-run l a b h k = simp (length-take, length-drop) (omega arith)
+pub length-between : (l : List Rmap) (a b : ℕ) → a ≤ b → b ≤ length l → length (between l a b) ≡ b - a
+length-between l a b h k = simp (length-take, length-drop) (omega arith)
 
 -- ---- writes one after another
 
@@ -104,16 +88,17 @@ wrote-then o o₁ o₂ at m n xs ys h a b =
           ∙ ap (withBytes o at) (sym (bytesOf-append rmaps rmaps-lawful xs ys));
     }
 
--- a run copied, the j bytes being all of it
-pub wrote-run : (o o₁ old : List ℕ) (at a b j : ℕ) → a ≤ b → b ≤ length old / 24 → j ≡ b * 24 - a * 24 → o₁ ≡ withBytes o at (bytesAt old (a * 24) j) → IsBytes old
-    → Wrote o o₁ at (run (recordsOf rmaps old) a b) (at + j)
-wrote-run o o₁ old at a b j h g e w bytes =
+-- records copied, the j bytes being all of it
+pub wrote-between : (o o₁ old : List ℕ) (at a b j : ℕ) → a ≤ b → b ≤ length old / 24 → j ≡ b * 24 - a * 24 → o₁ ≡ withBytes o at (take j (drop (a * 24) old)) → IsBytes old
+    → Wrote o o₁ at (between (recordsOf rmaps old) a b) (at + j)
+unfolding bytesAt
+wrote-between o o₁ old at a b j h g e w bytes =
     let n : j ≡ (b - a) * 24 = omega arith in
     let l : List Rmap = recordsOf rmaps old in
-    let long : length (run l a b) ≡ b - a = length-run l a b h (rw (length-recordsOf rmaps old) g) in
-    let same : bytesAt old (a * 24) j ≡ bytesOf rmaps (run l a b) =
-    ap (bytesAt old (a * 24)) n ∙ run-bytes rmaps rmaps-lawful old a b h g bytes in
-    record { next = rw (bytes-length (run l a b), long) (omega arith); bytes = w ∙ ap (withBytes o at) same }
+    let long : length (between l a b) ≡ b - a = length-between l a b h (rw (length-recordsOf rmaps old) g) in
+    let same : take j (drop (a * 24) old) ≡ bytesOf rmaps (between l a b) =
+    ap (λ (k : ℕ). take k (drop (a * 24) old)) n ∙ between-bytes rmaps rmaps-lawful old a b h g bytes in
+    record { next = rw (bytes-length (between l a b), long) (omega arith); bytes = w ∙ ap (withBytes o at) same }
 
 -- a record written, if there is one
 module _ (some : Bool) (r : Rmap) where
@@ -126,7 +111,7 @@ module _ (some : Bool) (r : Rmap) where
   pub wrote-nothing : (o : List ℕ) (at : ℕ) → some ≡ false → Wrote o o at (pieceOf some r) at
   wrote-nothing o at h = rw h (wrote-none o at)
 
--- ---- the size of a plan
+-- ---- the size of a splice
 
 pub length-piece : (t : Bool) (r : Rmap) → length (pieceOf t r) ≡ cond t 1 0
 length-piece true r = refl
@@ -134,7 +119,7 @@ length-piece false r = refl
 
 pub length-part : (l : List Rmap) (p : Part) → p .from ≤ p .to → p .to ≤ length l → length (partOf l p) ≡ partCount p
 length-part l p h k =
-    length-append (pieceOf (p .some) (p .rmap)) (run l (p .from) (p .to)) ∙ ap₂ _+_ (length-piece (p .some) (p .rmap)) (length-run l (p .from) (p .to) h k)
+    length-append (pieceOf (p .some) (p .rmap)) (between l (p .from) (p .to)) ∙ ap₂ _+_ (length-piece (p .some) (p .rmap)) (length-between l (p .from) (p .to) h k)
 
 pub length-parts : (l : List Rmap) (front : ℕ) (first second : Part) (rest : ℕ) → PartsGood (length l) front first second rest
     → length (partsOf l front first second rest) ≡ front + partCount first + partCount second + (length l - rest)
@@ -148,17 +133,17 @@ length-parts l front first second rest g =
 
 pub size-good : (l : List Rmap) (front : ℕ) (first second : Part) (rest size : ℕ) → PartsGood (length l) front first second rest
     → size ≡ (front + partCount first + partCount second + (length l - rest)) * 24
-    → PlanGood l (record { front = front; first = first; second = second; rest = rest; size = size })
+    → SpliceGood l (record { front = front; first = first; second = second; rest = rest; size = size })
 size-good l front first second rest size g e =
     record { parts = g; size = e ∙ sym (bytes-length (partsOf l front first second rest) ∙ ap (λ (n : ℕ). n * 24) (length-parts l front first second rest g)) }
 
--- the bytes of a run
-pub run-size : (old : List ℕ) (a b : ℕ) → a ≤ b → b ≤ length old / 24 → length (bytesOf rmaps (run (recordsOf rmaps old) a b)) ≡ (b - a) * 24
-run-size old a b h g =
-    bytes-length (run (recordsOf rmaps old) a b) ∙ ap (λ (n : ℕ). n * 24) (length-run (recordsOf rmaps old) a b h (rw (length-recordsOf rmaps old) g))
+-- the bytes of the records from a up to b
+pub between-size : (old : List ℕ) (a b : ℕ) → a ≤ b → b ≤ length old / 24 → length (bytesOf rmaps (between (recordsOf rmaps old) a b)) ≡ (b - a) * 24
+between-size old a b h g =
+    bytes-length (between (recordsOf rmaps old) a b) ∙ ap (λ (n : ℕ). n * 24) (length-between (recordsOf rmaps old) a b h (rw (length-recordsOf rmaps old) g))
 
--- a plan's parts lie in the old list, and their bytes are its size
-pub record Sizes (old : List ℕ) (p : Plan) : Type 0 where
+-- a splice's parts lie in the old list, and their bytes are its size
+pub record Sizes (old : List ℕ) (p : Splice) : Type 0 where
   pub front : p .front ≤ length old / 24
   pub first : (p .first .from ≤ p .first .to) × (p .first .to ≤ length old / 24)
   pub second : (p .second .from ≤ p .second .to) × (p .second .to ≤ length old / 24)
@@ -166,7 +151,7 @@ pub record Sizes (old : List ℕ) (p : Plan) : Type 0 where
   pub size : p .size
       ≡ p .front * 24 + length (bytesOf rmaps (partOf (recordsOf rmaps old) (p .first))) + length (bytesOf rmaps (partOf (recordsOf rmaps old) (p .second))) + (length old / 24 - p .rest) * 24
 
-pub sizes : (old : List ℕ) (p : Plan) → PlanGood (recordsOf rmaps old) p → Sizes old p
+pub sizes : (old : List ℕ) (p : Splice) → SpliceGood (recordsOf rmaps old) p → Sizes old p
 unfolding partsOf
 sizes old p g =
     let l : List Rmap = recordsOf rmaps old in
@@ -186,19 +171,19 @@ sizes old p g =
       size = omega arith;
     }
 
-pub wrote-plan : (old : List ℕ) (p : Plan) (o o₁ o₂ o₃ o₄ : List ℕ) (a b c d : ℕ) → PlanGood (recordsOf rmaps old) p → p .size ≤ length o
-    → Wrote o o₁ 0 (run (recordsOf rmaps old) 0 (p .front)) a → Wrote o₁ o₂ a (partOf (recordsOf rmaps old) (p .first)) b
-    → Wrote o₂ o₃ b (partOf (recordsOf rmaps old) (p .second)) c → Wrote o₃ o₄ c (run (recordsOf rmaps old) (p .rest) (length old / 24)) d
+pub wrote-splice : (old : List ℕ) (p : Splice) (o o₁ o₂ o₃ o₄ : List ℕ) (a b c d : ℕ) → SpliceGood (recordsOf rmaps old) p → p .size ≤ length o
+    → Wrote o o₁ 0 (between (recordsOf rmaps old) 0 (p .front)) a → Wrote o₁ o₂ a (partOf (recordsOf rmaps old) (p .first)) b
+    → Wrote o₂ o₃ b (partOf (recordsOf rmaps old) (p .second)) c → Wrote o₃ o₄ c (between (recordsOf rmaps old) (p .rest) (length old / 24)) d
     → o₄ ≡ withBytes o 0 (bytesOf rmaps (listOf (recordsOf rmaps old) p))
 unfolding partsOf
-wrote-plan old p o o₁ o₂ o₃ o₄ a b c d g h w₁ w₂ w₃ w₄ =
+wrote-splice old p o o₁ o₂ o₃ o₄ a b c d g h w₁ w₂ w₃ w₄ =
     let l : List Rmap = recordsOf rmaps old in
     let s = sizes old p g in
-    let x₁ : List Rmap = run l 0 (p .front) in
+    let x₁ : List Rmap = between l 0 (p .front) in
     let x₂ : List Rmap = partOf l (p .first) in
     let x₃ : List Rmap = partOf l (p .second) in
-    let x₄ : List Rmap = run l (p .rest) (length old / 24) in
-    let n₁ = run-size old 0 (p .front) (omega arith) (s .front) in
+    let x₄ : List Rmap = between l (p .rest) (length old / 24) in
+    let n₁ = between-size old 0 (p .front) (omega arith) (s .front) in
     let e₀ : p .front - 0 ≡ p .front = omega arith in
     let e₁ : x₁ ≡ take (p .front) l = ap (λ (n : ℕ). take n l) e₀ in
     let e₄ : x₄ ≡ drop (p .rest) l = take-all (length old / 24 - p .rest) (drop (p .rest) l) (simp length-drop (omega (arith, length-recordsOf rmaps old))) in

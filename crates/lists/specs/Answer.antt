@@ -1,11 +1,11 @@
--- The number of each refusal of an edit (docs/QUESTIONS.md), what each answer says, the lengths in bytes or the number, and what each call of an edit
+-- The number (docs/QUESTIONS.md) and the values of each refusal of an edit, what each answer says, the lengths in bytes or the number, and what each call of an edit
 -- answers and leaves.
 -- Assumes nothing.
 use Prim.Native.Nat.{ℕ}
 use mathlib.Core.Path.{_≡_}
 use mathlib.Core.List.{List}
 use lib.ListN.{length}
-use Rattle.codec.specs.Question.{none, Outcome, done, refused, mapOutcome}
+use Rattle.codec.specs.Question.{Values, none, Outcome, done, refused, mapOutcome}
 use Rattle.codec.specs.Records.{Kind, bytesOf, rmaps, refcounts, freeExtents}
 use Rattle.codec.specs.ListRefusal.{listNumber}
 use Rattle.codec.specs.declared.rmap.Rmap.{Rmap}
@@ -28,13 +28,17 @@ editNumber why.Room = 26
 editNumber why.Unheld = 27
 editNumber why.Owners = 28
 
+-- no question on an edit has values
+abbrev pub editValues : EditRefusal → Values
+editValues r = none
+
 abbrev pub editedOutcome : Edited → Outcome ℕ
 editedOutcome (edited.Done n) = done n
-editedOutcome (edited.Refused r) = refused (editNumber r) none
+editedOutcome (edited.Refused r) = refused (editNumber r) (editValues r)
 
 abbrev pub releasedOutcome : Released → Outcome Lengths
 releasedOutcome (released.Done n) = done n
-releasedOutcome (released.Refused r) = refused (editNumber r) none
+releasedOutcome (released.Refused r) = refused (editNumber r) (editValues r)
 
 -- the length of the new list in bytes
 abbrev pub lengthOf : {R : Type 0} → Kind R → Outcome (List R) → Outcome ℕ

@@ -1,10 +1,11 @@
 -- Extents: a start and a count of blocks. An extent lies over the blocks start to start + count - 1.
 -- Assumes nothing.
-use Prim.Native.Nat.{ℕ, zero, suc, _+_, _^_, _≤_, _<_}
+use Prim.Native.Nat.{ℕ, zero, suc, _+_, _≤_, _<_}
 use mathlib.Core.Path.{_≡_}
 use mathlib.Core.Bool.{Bool, false, cond, _&&_, _||_}
 use mathlib.Core.List.{List, [], _∷_}
 use lib.Dec.{ltb, leb, eqb}
+use Rattle.codec.specs.Accepted.{endLimit}
 use Rattle.codec.specs.declared.free_extent.FreeExtent.{FreeExtent}
 
 -- does the extent lie over block b?
@@ -18,7 +19,7 @@ within start count n b = cond (over start count b) n 0
 
 -- 22 by start and count: a count above 0, and an end at most 2,147,483,648
 unfoldable pub goodExtent : ℕ → ℕ → Bool
-goodExtent start count = ltb 0 count && leb (start + count) (2 ^ 31)
+goodExtent start count = ltb 0 count && leb (start + count) endLimit
 
 -- block b in front of the runs that begin after it
 unfoldable pub grow : ℕ → List FreeExtent → List FreeExtent

@@ -1,24 +1,22 @@
 -- Blocks taken that others hold already: the edit of the shared counts, as a list of records.
 -- Assumes nothing.
-use Prim.Native.Nat.{ℕ, _+_, _-_, _^_, _≤_, min, max}
+use Prim.Native.Nat.{ℕ, _+_, _-_, _≤_, min, max}
 use mathlib.Core.Path.{_≡_}
 use mathlib.Core.Bool.{Bool, true, not, cond, _&&_}
 use mathlib.Core.List.{List, [], _∷_, _++_}
 use lib.Dec.{ltb, leb}
 use lib.ListN.{length}
+use Rattle.codec.specs.Accepted.{endLimit}
 use Rattle.codec.specs.Question.{Outcome, done, ask, answer}
 use Rattle.codec.specs.Records.{recordsOf, bytesOf, refcounts}
-use Rattle.codec.specs.Refcounts.{staging, accepted}
+use Rattle.codec.specs.Refcounts.{maxRefcount, staging, accepted}
 use Rattle.codec.specs.declared.refcount.Refcount.{Refcount}
-use Rattle.lists.specs.Extent.{goodExtent}
-use Rattle.lists.specs.Release.{clear, stop, piece, clamp, joinAll}
-use Rattle.lists.specs.Edits.{countQuestions}
+use Rattle.lists.specs.Release.{clear, stop, piece, cutBy, joinAll}
+use Rattle.lists.specs.Edits.{extentQuestions}
 
--- the shared record r with one owner more from s up to e: what lies before that, that itself, and what lies after it
+-- the shared record r with one owner more from s up to e
 unfoldable pub raised : ℕ → ℕ → Refcount → List Refcount
-raised s e r =
-    piece (r .startblock) (clamp r s) (r .refcount)
-    ++ (piece (clamp r s) (clamp r e) (r .refcount + 1) ++ piece (clamp r e) (stop r) (r .refcount))
+raised s e r = cutBy (λ a z n. piece a z (n + 1)) s e r
 
 -- one owner more from a up to e: the blocks that no shared record lies over have one, and get a record of 2. Staging, which stands behind all
 -- shared records, stays.
@@ -33,7 +31,7 @@ raise s e l = joinAll (raiseAll s e l)
 
 -- does the shared record r meet the blocks from s up to e with 4,294,967,295 owners, the most that its bytes can hold?
 unfoldable pub full : ℕ → ℕ → Refcount → Bool
-full s e r = leb (2 ^ 32 - 1) (r .refcount) && (not (staging r) && (ltb s (stop r) && ltb (r .startblock) e))
+full s e r = leb maxRefcount (r .refcount) && (not (staging r) && (ltb s (stop r) && ltb (r .startblock) e))
 
 -- 28: has no shared record that meets the blocks from s up to e as many owners already?
 unfoldable pub ownersFit : ℕ → ℕ → List Refcount → Bool
@@ -44,14 +42,11 @@ ownersFit s e (r ∷ l) = not (full s e r) && ownersFit s e l
 unfoldable pub raiseOutcome : List ℕ → ℕ → ℕ → Outcome (List Refcount)
 raiseOutcome c start count =
     let l : List Refcount = recordsOf refcounts c in
-    answer
-    (countQuestions c
-    ++ (ask 22 (goodExtent start count) ∷ ask 25 (clear start (start + count) l) ∷ ask 28 (ownersFit start (start + count) l) ∷ []))
-    (done (raise start (start + count) l))
+    answer (extentQuestions c start count ++ (ask 28 (ownersFit start (start + count) l) ∷ [])) (done (raise start (start + count) l))
 
 -- the questions hold that the second step needs, and the new counts fit what was lent
 pub record Raisable (l : List Refcount) (start count room : ℕ) : Type 0 where
-  pub end : start + count ≤ 2 ^ 31
+  pub end : start + count ≤ endLimit
   pub accepted : accepted l ≡ true
   pub clear : clear start (start + count) l ≡ true
   pub owners : ownersFit start (start + count) l ≡ true

@@ -29,19 +29,27 @@ stop r = r .startblock + r .blockcount
 unfoldable pub piece : ℕ → ℕ → ℕ → List Refcount
 piece a z n = cond (ltb a z) (record { startblock = a; blockcount = z - a; refcount = n } ∷ []) []
 
--- the same with one owner fewer: at 2 the record goes
-unfoldable pub middle : ℕ → ℕ → ℕ → List Refcount
-middle a z n = cond (leb n 2) [] (piece a z (n - 1))
+-- the same, and none where nobody owns them
+unfoldable pub share : ℕ → ℕ → ℕ → List Refcount
+share a z n = cond (eqb n 0) [] (piece a z n)
 
 -- the block s, or the nearer end of the record r
 unfoldable pub clamp : Refcount → ℕ → ℕ
 clamp r s = max (r .startblock) (min s (stop r))
 
--- r with one owner fewer from s up to e: what lies before that, that itself, and what lies after it
-unfoldable pub lowered : ℕ → ℕ → Refcount → List Refcount
-lowered s e r =
+-- r cut at s and e: what lies before s, what m makes of the blocks between and their owners, and what lies from e on
+abbrev pub cutBy : (ℕ → ℕ → ℕ → List Refcount) → ℕ → ℕ → Refcount → List Refcount
+cutBy m s e r =
     piece (r .startblock) (clamp r s) (r .refcount)
-    ++ (middle (clamp r s) (clamp r e) (r .refcount) ++ piece (clamp r e) (stop r) (r .refcount))
+    ++ (m (clamp r s) (clamp r e) (r .refcount) ++ piece (clamp r e) (stop r) (r .refcount))
+
+-- one owner fewer, and none where one is left
+unfoldable pub fewer : ℕ → ℕ
+fewer n = cond (leb n 2) 0 (n - 1)
+
+-- r with one owner fewer from s up to e
+unfoldable pub lowered : ℕ → ℕ → Refcount → List Refcount
+lowered s e r = cutBy (λ a z n. share a z (fewer n)) s e r
 
 -- ---- the whole list
 
@@ -51,12 +59,12 @@ lowerAll s e [] = []
 lowerAll s e (r ∷ l) = cond (staging r) (r ∷ []) (lowered s e r) ++ lowerAll s e l
 
 -- are both shared, or both staging?
-unfoldable pub alike : Refcount → Refcount → Bool
-alike r s = cond (staging r) (staging s) (not (staging s))
+unfoldable pub sameKind : Refcount → Refcount → Bool
+sameKind r s = cond (staging r) (staging s) (not (staging s))
 
 -- does s begin at the block where r ends, being of the same kind and with as many owners?
 unfoldable pub continues : Refcount → Refcount → Bool
-continues r s = alike r s && (eqb (end r) (block s) && eqb (r .refcount) (s .refcount))
+continues r s = sameKind r s && (eqb (end r) (block s) && eqb (r .refcount) (s .refcount))
 
 abbrev pub joined : Refcount → Refcount → Refcount
 joined r s = record { startblock = r .startblock; blockcount = r .blockcount + s .blockcount; refcount = r .refcount }

@@ -38,11 +38,14 @@ place x (r ∷ l) = cond (before r x) (r ∷ place x l) (x ∷ r ∷ l)
 
 -- ---- joining
 
+-- the same owner and flags
+abbrev pub alike : Rmap → Rmap → Bool
+alike r s = eqb (r .owner) (s .owner) && eqb (flags r) (flags s)
+
 -- does s continue r: adjacency, same owner and flags, and continuing file offsets unless reserved?
 unfoldable pub continues : Rmap → Rmap → Bool
 continues r s =
-    eqb (r .owner) (s .owner)
-    && (eqb (flags r) (flags s) && (eqb (end r) (s .startblock) && (reserved (r .owner) || eqb (fileOffset r + r .blockcount) (fileOffset s))))
+    alike r s && (eqb (end r) (s .startblock) && (reserved (r .owner) || eqb (fileOffset r + r .blockcount) (fileOffset s)))
 
 -- the start and the whole offset of the lowest part
 abbrev pub joined : Rmap → Rmap → Rmap
@@ -74,8 +77,7 @@ overlaps x r = ltb (r .startblock) (end x) && ltb (x .startblock) (end r)
 unfoldable pub clash : Rmap → Rmap → Bool
 clash x r =
     overlaps x r
-    && (exempt r
-    || (exempt x || (eqb (r .owner) (x .owner) && (eqb (flags r) (flags x) && eqb (fileOffset r + x .startblock) (fileOffset x + r .startblock)))))
+    && (exempt r || (exempt x || (alike r x && eqb (fileOffset r + x .startblock) (fileOffset x + r .startblock))))
 
 -- 23: does no overlapping record clash?
 abbrev pub unclashed : Rmap → List Rmap → Bool
@@ -105,8 +107,7 @@ insertShared x l = shareAfter (shareBefore x l) (replace (λ r. continues r x) n
 
 -- is r of the owner and flags of x, and does it contain x?
 unfoldable pub contains : Rmap → Rmap → Bool
-contains x r =
-    eqb (r .owner) (x .owner) && (eqb (flags r) (flags x) && (leb (r .startblock) (x .startblock) && leb (end x) (end r)))
+contains x r = alike r x && (leb (r .startblock) (x .startblock) && leb (end x) (end r))
 
 -- 24: does a record of that owner and flags contain it?
 abbrev pub contained : Rmap → List Rmap → Bool

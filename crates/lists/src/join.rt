@@ -1,44 +1,42 @@
-// The counts with one owner fewer or more on an extent, adjacent equals joined, record by record. `up` asks for one more.
+// The counts with one owner fewer or more on an extent, adjacent equals joined, record by record.
+use crate::carried::Change;
+use crate::carried::Joiner;
+use crate::carried::Pass;
+use codec::refcount::MAXREFCOUNT;
+use codec::refcount::REFCOUNT_LEN;
 use codec::refcount::Refcount;
 use codec::refcount::encode;
 ghost use mathlib.Core.Path.{_≡_};
 ghost use mathlib.Core.Bool.{_&&_};
 ghost use lib.Dec.{ltb};
-ghost use Prim.Native.Nat.{_+_, _<_, _≤_, _^_, min, max};
+ghost use Prim.Native.Nat.{_+_, _<_, _≤_, min, max};
 ghost use lib.ListN.{length};
+ghost use Rattle.codec.specs.Accepted.{endLimit};
 ghost use Rattle.codec.specs.Records.{bytesOf, refcounts};
-ghost use Rattle.lists.specs.Release.{stop};
-ghost use Rattle.lists.specs.Passes.{putIf, pending, goesOn, fewer, more, next, fresh, share, changed, Lies, Fits, Room, Cut, Pushed};
+ghost use Rattle.lists.specs.Release.{stop, fewer, share};
+ghost use Rattle.lists.specs.inner.Passes.{raises, writesCounts, putIf, pending, goesOn, more, next, fresh, changed, Lies, Fits, Room, Cut, Pushed};
 
-// The record that waits for its successor, none if its count is 0; `at` is the place behind the finished ones.
-pub(crate) struct Joiner {
-    pub start: u32,
-    pub count: u32,
-    pub owners: u32,
-    pub at: usize,
-}
-
-// Finishes the record that waits, and says the place behind it. With `write` it is put into `new`.
-pub(crate) fn finish(j: Joiner, new: &mut [u8], write: bool) -> usize
+// Finishes the record that waits, and says the place behind it. A pass that writes puts it into `new`.
+pub(crate) fn finish(j: Joiner, new: &mut [u8], pass: Pass) -> usize
     requires { ⌜ Fits j ⌝ }
-    requires { ⌜ Room write j (length (now new)) ⌝ }
+    requires { ⌜ Room (writesCounts pass) j (length (now new)) ⌝ }
     ensures { λ r. ⌜ r ≡ j .at + length (bytesOf refcounts (pending j)) ⌝ }
-    ensures { λ _. ⌜ now (new .exit) ≡ putIf write (now (new .entry)) (j .at) (bytesOf refcounts (pending j)) ⌝ }
+    ensures { λ _. ⌜ now (new .exit) ≡ putIf (writesCounts pass) (now (new .entry)) (j .at) (bytesOf refcounts (pending j)) ⌝ }
 {
     let at = j.at;
     if j.count == 0 {
         return at;
     }
-    if write {
+    if pass.writes_counts() {
         let last = Refcount {
             startblock: j.start,
             blockcount: j.count,
             refcount: j.owners,
         };
         encode(new, at, last);
-        return at + 12;
+        return at + REFCOUNT_LEN;
     }
-    at + 12
+    at + REFCOUNT_LEN
 }
 
 // Do n owners from place `a` on join the record that waits?
@@ -56,12 +54,12 @@ fn goes_on(j: Joiner, a: u64, n: u64) -> bool
 }
 
 // The places from `a` up to `z` with n owners, if there are any: they join the record that waits, or finish it and wait.
-fn push(j: Joiner, a: u64, z: u64, n: u64, new: &mut [u8], write: bool) -> Joiner
+fn push(j: Joiner, a: u64, z: u64, n: u64, new: &mut [u8], pass: Pass) -> Joiner
     requires { ⌜ Lies a z n ⌝ }
     requires { ⌜ (a ≤ z) × (j .start + j .count ≤ a) ⌝ }
     requires { ⌜ Fits j ⌝ }
-    requires { ⌜ Room write j (length (now new)) ⌝ }
-    ensures { λ k. ⌜ Pushed write j (now (new .entry)) (share a z n) z k (now (new .exit)) ⌝ }
+    requires { ⌜ Room (writesCounts pass) j (length (now new)) ⌝ }
+    ensures { λ k. ⌜ Pushed (writesCounts pass) j (now (new .entry)) (share a z n) z k (now (new .exit)) ⌝ }
 {
     if z <= a {
         return j;
@@ -77,7 +75,7 @@ fn push(j: Joiner, a: u64, z: u64, n: u64, new: &mut [u8], write: bool) -> Joine
             at: j.at,
         };
     }
-    let at = finish(j, new, write);
+    let at = finish(j, new, pass);
     Joiner {
         start: a as u32,
         count: (z - a) as u32,
@@ -100,17 +98,17 @@ fn fewer(n: u64) -> u64
 fn more(n: u64) -> u64
     ensures { λ r. ⌜ r ≡ more n ⌝ }
 {
-    if 0xFFFF_FFFF <= n {
+    if MAXREFCOUNT as u64 <= n {
         return n;
     }
     n + 1
 }
 
 // What becomes of n owners.
-fn next(up: bool, n: u64) -> u64
-    ensures { λ r. ⌜ r ≡ next up n ⌝ }
+fn next(how: Change, n: u64) -> u64
+    ensures { λ r. ⌜ r ≡ next (raises how) n ⌝ }
 {
-    if up {
+    if how.raises() {
         return more(n);
     }
     fewer(n)
@@ -139,37 +137,37 @@ pub(crate) fn meets(start: u64, end: u64, s: u64, e: u64) -> bool
     start < e
 }
 
-// The places from `a` up to `z` that no record tells of: with one owner more they have 2.
-pub(crate) fn fill(j: Joiner, a: u64, z: u64, up: bool, new: &mut [u8], write: bool) -> Joiner
-    requires { ⌜ (z ≤ 2 ^ 31) × (j .start + j .count ≤ a) ⌝ }
+// The places from `a` up to `z` that no record tells of: a raise gives them 2 owners.
+pub(crate) fn fill(j: Joiner, a: u64, z: u64, how: Change, new: &mut [u8], pass: Pass) -> Joiner
+    requires { ⌜ (z ≤ endLimit) × (j .start + j .count ≤ a) ⌝ }
     requires { ⌜ Fits j ⌝ }
-    requires { ⌜ Room write j (length (now new)) ⌝ }
-    ensures { λ k. ⌜ Pushed write j (now (new .entry)) (share a z (fresh up)) (max (j .start + j .count) z) k (now (new .exit)) ⌝ }
+    requires { ⌜ Room (writesCounts pass) j (length (now new)) ⌝ }
+    ensures { λ k. ⌜ Pushed (writesCounts pass) j (now (new .entry)) (share a z (fresh (raises how))) (max (j .start + j .count) z) k (now (new .exit)) ⌝ }
 {
-    if !up {
+    if !how.raises() {
         return j;
     }
     if z <= a {
         return j;
     }
-    push(j, a, z, 2, new, write)
+    push(j, a, z, 2, new, pass)
 }
 
 // A record that the places from `s` up to `e` meet: what lies before them, the owners changed there, and what lies after them.
-fn cut(j: Joiner, r: Refcount, s: u64, e: u64, up: bool, new: &mut [u8], write: bool) -> Joiner
-    requires { ⌜ Cut up write s e j r (length (now new)) ⌝ }
+fn cut(j: Joiner, r: Refcount, s: u64, e: u64, how: Change, new: &mut [u8], pass: Pass) -> Joiner
+    requires { ⌜ Cut (raises how) (writesCounts pass) s e j r (length (now new)) ⌝ }
     requires { ⌜ r .startblock < e ⌝ }
-    ensures { λ k. ⌜ Pushed write j (now (new .entry)) (changed up s e r) (stop r) k (now (new .exit)) ⌝ }
+    ensures { λ k. ⌜ Pushed (writesCounts pass) j (now (new .entry)) (changed (raises how) s e r) (stop r) k (now (new .exit)) ⌝ }
 {
     let start = r.startblock as u64;
     let owners = r.refcount as u64;
     let end = start + r.blockcount as u64;
     let a = clamp(s, start, end);
     let z = clamp(e, start, end);
-    let then = next(up, owners);
-    let front = push(j, start, a, owners, new, write);
-    let middle = push(front, a, z, then, new, write);
-    push(middle, z, end, owners, new, write)
+    let then = next(how, owners);
+    let front = push(j, start, a, owners, new, pass);
+    let middle = push(front, a, z, then, new, pass);
+    push(middle, z, end, owners, new, pass)
 }
 
 // The next record: one that the extent does not meet stays whole.
@@ -178,17 +176,17 @@ pub(crate) fn change(
     r: Refcount,
     s: u64,
     e: u64,
-    up: bool,
+    how: Change,
     new: &mut [u8],
-    write: bool,
+    pass: Pass,
 ) -> Joiner
-    requires { ⌜ Cut up write s e j r (length (now new)) ⌝ }
-    ensures { λ k. ⌜ Pushed write j (now (new .entry)) (changed up s e r) (stop r) k (now (new .exit)) ⌝ }
+    requires { ⌜ Cut (raises how) (writesCounts pass) s e j r (length (now new)) ⌝ }
+    ensures { λ k. ⌜ Pushed (writesCounts pass) j (now (new .entry)) (changed (raises how) s e r) (stop r) k (now (new .exit)) ⌝ }
 {
     let start = r.startblock as u64;
     let end = start + r.blockcount as u64;
     if meets(start, end, s, e) {
-        return cut(j, r, s, e, up, new, write);
+        return cut(j, r, s, e, how, new, pass);
     }
-    push(j, start, end, r.refcount as u64, new, write)
+    push(j, start, end, r.refcount as u64, new, pass)
 }

@@ -1,9 +1,12 @@
 // Edits of the two lists of a group: extents taken and given up in the reverse map, and counts lowered and raised.
 use codec::check::ListRefusal;
-ghost use mathlib.Core.Path.{_≡_};
-ghost use Rattle.lists.specs.Answer.{editNumber};
+use codec::refusal::Told;
+ghost use Rattle.codec.specs.Told.{Tells};
+ghost use Rattle.lists.specs.Answer.{editNumber, editValues};
 
-mod copy;
+mod carried;
+mod extent;
+mod findings;
 mod gaps;
 pub mod held;
 mod join;
@@ -11,8 +14,8 @@ mod pass;
 pub mod raises;
 pub mod refcounts;
 pub mod rmap_edits;
-pub mod rmap_plans;
 mod search;
+pub mod splice;
 mod unchanged;
 pub mod write;
 
@@ -36,23 +39,21 @@ pub enum EditRefusal {
     Owners,
 }
 
-// The number of a refusal.
-pub fn edit_number(r: EditRefusal) -> u32
-    ensures { λ n. ⌜ n ≡ editNumber r ⌝ }
-{
-    match r {
-        EditRefusal::List(l) => match l {
-            ListRefusal::Length => 19,
-            ListRefusal::RmapOrder => 20,
-            ListRefusal::RefcountOrder => 21,
-        },
-        EditRefusal::Extent => 22,
-        EditRefusal::Overlap => 23,
-        EditRefusal::Missing => 24,
-        EditRefusal::Staging => 25,
-        EditRefusal::Room => 26,
-        EditRefusal::Unheld => 27,
-        EditRefusal::Owners => 28,
+impl EditRefusal {
+    // No question on an edit has values.
+    pub fn told(self) -> Told
+        ensures { λ t. ⌜ Tells t (editNumber self) (editValues self) ⌝ }
+    {
+        match self {
+            EditRefusal::List(l) => l.told(),
+            EditRefusal::Extent => Told::plain(22),
+            EditRefusal::Overlap => Told::plain(23),
+            EditRefusal::Missing => Told::plain(24),
+            EditRefusal::Staging => Told::plain(25),
+            EditRefusal::Room => Told::plain(26),
+            EditRefusal::Unheld => Told::plain(27),
+            EditRefusal::Owners => Told::plain(28),
+        }
     }
 }
 

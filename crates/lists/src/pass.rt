@@ -1,19 +1,25 @@
-// One pass along the shared counts for a release, or with `up` for a raise. It decides 21, 25 and 28 and adds up both lengths, or it writes both
-// lists. Behind each record it steps over, it goes by the run of those that stay as they are.
+// One pass along the shared counts for a release or a raise. It decides 21, 25 and 28 and adds up both lengths, or it writes the lists: a refusal
+// writes nothing, and 26 asks the lengths, so an edit takes a pass that measures and then one that writes. Behind each record it steps over, it
+// skips those that stay as they are.
 use crate::EditRefusal;
 use crate::Lengths;
 use crate::Released;
+use crate::carried::Carried;
+use crate::carried::Change;
+use crate::carried::Joiner;
+use crate::carried::Pass;
 use crate::gaps::larger;
-use crate::gaps::put_run;
+use crate::gaps::put_gap;
 use crate::gaps::smaller;
-use crate::join::Joiner;
 use crate::join::change;
 use crate::join::fill;
 use crate::join::finish;
 use crate::join::meets;
-use crate::unchanged::go_by;
+use crate::unchanged::skip;
 use crate::unchanged::unchanged;
 use codec::check::ListRefusal;
+use codec::refcount::MAXREFCOUNT;
+use codec::refcount::REFCOUNT_LEN;
 use codec::refcount::Refcount;
 use codec::refcount::decode;
 use codec::refcount::follows;
@@ -23,35 +29,16 @@ ghost use mathlib.Core.Bool.{true, not, _&&_};
 ghost use Prim.Native.Nat.{_+_, _<_};
 ghost use lib.Dec.{ltb};
 ghost use lib.ListN.{length};
-ghost use Rattle.codec.specs.Bytes.{withBytes};
-ghost use Rattle.codec.specs.Records.{recordsOf, bytesOf, refcounts, freeExtents};
+ghost use Rattle.codec.specs.Records.{recordsOf, refcounts};
 ghost use Rattle.codec.specs.Refcounts.{staging, block, end};
-ghost use Rattle.lists.specs.Release.{unshared};
 ghost use Rattle.lists.specs.Raise.{full};
-ghost use Rattle.lists.specs.Answer.{releasedOutcome, lengthsOf};
-ghost use Rattle.lists.specs.Steps.{edited, passOutcome, Passable};
-ghost use Rattle.lists.specs.Passes.{begun, StepAsks, Stepped};
-
-// What is carried from record to record.
-pub(crate) struct Walk {
-    // the record before
-    pub prev: Refcount,
-    pub joiner: Joiner,
-    // where the next run of blocks without a record may begin
-    pub gap: u64,
-    // the bytes of the free extents found
-    pub free: usize,
-    // has no record staged a block of the extent?
-    pub clear: bool,
-    // can each record of the extent tell one owner more?
-    pub fit: bool,
-}
+ghost use Rattle.lists.specs.inner.Passes.{raises, writesCounts, writesFree, begun, StepAsks, Stepped, Passable, PassIs};
 
 // Before the first record, for an extent from `s` on.
-fn begin(s: u64) -> Walk
+fn begin(s: u64) -> Carried
     ensures { λ w. ⌜ w ≡ begun s ⌝ }
 {
-    Walk {
+    Carried {
         prev: Refcount {
             startblock: 0,
             blockcount: 0,
@@ -74,14 +61,13 @@ fn begin(s: u64) -> Walk
 fn stages(r: Refcount, s: u64, e: u64) -> bool
     ensures { λ t. ⌜ t ≡ (staging r && (ltb (block r) e && ltb s (end r))) ⌝ }
 {
-    if r.startblock < 0x8000_0000 {
+    if !r.is_staging() {
         return false;
     }
-    let block = (r.startblock % 0x8000_0000) as u64;
-    if e <= block {
+    if e <= r.block() as u64 {
         return false;
     }
-    s < block + r.blockcount as u64
+    s < r.end()
 }
 
 // Is the extent from `s` up to `e` clear of this record too?
@@ -98,10 +84,10 @@ fn stays_clear(clear: bool, r: Refcount, s: u64, e: u64) -> bool
 fn full(r: Refcount, s: u64, e: u64) -> bool
     ensures { λ t. ⌜ t ≡ full s e r ⌝ }
 {
-    if r.refcount < 0xFFFF_FFFF {
+    if r.refcount < MAXREFCOUNT {
         return false;
     }
-    if 0x8000_0000 <= r.startblock {
+    if r.is_staging() {
         return false;
     }
     let start = r.startblock as u64;
@@ -120,29 +106,29 @@ fn stays_fit(fit: bool, r: Refcount, s: u64, e: u64) -> bool
 }
 
 // Does a raise make more owners than a record can tell?
-fn too_many(up: bool, fit: bool) -> bool
-    ensures { λ t. ⌜ t ≡ (up && not fit) ⌝ }
+fn too_many(how: Change, fit: bool) -> bool
+    ensures { λ t. ⌜ t ≡ (raises how && not fit) ⌝ }
 {
-    if up {
-        return !fit;
+    match how {
+        Change::Lower => false,
+        Change::Raise => !fit,
     }
-    false
 }
 
 // The next record, which is good and in order.
 fn step(
-    w: Walk,
+    w: Carried,
     r: Refcount,
     s: u64,
     e: u64,
-    up: bool,
+    how: Change,
     new: &mut [u8],
     free: &mut [u8],
-    write: bool,
-    list: bool,
-) -> Walk
-    requires { ⌜ StepAsks up write list s e w r (length (now new)) (length (now free)) ⌝ }
-    ensures { λ k. ⌜ Stepped up write list s e w r (now (new .entry)) (now (free .entry)) k (now (new .exit)) (now (free .exit)) ⌝ }
+    pass: Pass,
+) -> Carried
+    requires { ⌜ StepAsks (raises how) (writesCounts pass) (writesFree pass) s e w r (length (now new)) (length (now free)) ⌝ }
+    ensures { λ k. ⌜ Stepped (raises how) (writesCounts pass) (writesFree pass) s e w r (now (new .entry)) (now (free .entry))
+        k (now (new .exit)) (now (free .exit)) ⌝ }
 {
     let clear = stays_clear(w.clear, r, s, e);
     let fit = stays_fit(w.fit, r, s, e);
@@ -150,11 +136,11 @@ fn step(
     let end = start + r.blockcount as u64;
     let gap = larger(w.gap, end);
     let z = smaller(start, e);
-    let found = put_run(free, w.free, w.gap, z, list);
+    let found = put_gap(free, w.free, w.gap, z, pass);
     let j = w.joiner;
-    let filled = fill(j, w.gap, z, up, new, write);
-    let joiner = change(filled, r, s, e, up, new, write);
-    Walk {
+    let filled = fill(j, w.gap, z, how, new, pass);
+    let joiner = change(filled, r, s, e, how, new, pass);
+    Carried {
         prev: r,
         joiner: joiner,
         gap: gap,
@@ -164,32 +150,29 @@ fn step(
     }
 }
 
-// Asks 21 and 25, with `up` 28 too, of a good extent, and gives both lengths. With `write`, where the questions hold and the new counts fit,
-// these go into `new`; with `list`, where they fit, the free extents go into `free`. Else nothing is written.
+// Asks 21 and 25, in a raise 28 too, of a good extent, and gives both lengths. A pass that writes, where the questions hold and what it writes
+// fits, puts the new counts into `new`, and the free extents into `free`.
 pub(crate) fn pass(
     counts: &[u8],
     startblock: u32,
     blockcount: u32,
-    up: bool,
+    how: Change,
     new: &mut [u8],
     free: &mut [u8],
-    write: bool,
-    list: bool,
+    pass: Pass,
 ) -> Released
-    requires { ⌜ Passable up (recordsOf refcounts (now counts)) startblock blockcount write list (length (now new)) (length (now free)) ⌝ }
-    ensures said { λ r. ⌜ releasedOutcome r ≡ lengthsOf (passOutcome up (recordsOf refcounts (now (counts .entry))) startblock blockcount) ⌝ }
-    ensures counts { λ _. ⌜ (write ≡ true → now (new .exit)
-        ≡ withBytes (now (new .entry)) 0 (bytesOf refcounts (edited up startblock (startblock + blockcount) (recordsOf refcounts (now (counts .entry)))))) ⌝ }
-    ensures extents { λ _. ⌜ (list ≡ true → now (free .exit)
-        ≡ withBytes (now (free .entry)) 0 (bytesOf freeExtents (unshared (recordsOf refcounts (now (counts .entry))) startblock blockcount))) ⌝ }
+    requires { ⌜ Passable (raises how) (recordsOf refcounts (now counts)) startblock blockcount
+        (writesCounts pass) (writesFree pass) (length (now new)) (length (now free)) ⌝ }
+    ensures { λ r. ⌜ PassIs (raises how) (writesCounts pass) (writesFree pass) (recordsOf refcounts (now (counts .entry))) startblock blockcount
+        r (now (new .entry)) (now (new .exit)) (now (free .entry)) (now (free .exit)) ⌝ }
 {
     let s = startblock as u64;
     let e = s + blockcount as u64;
-    let n = counts.len() / 12;
+    let n = counts.len() / REFCOUNT_LEN;
     let mut w = begin(s);
     let mut i = 0;
     while i < n {
-        let r = decode(counts, i * 12);
+        let r = decode(counts, i * REFCOUNT_LEN);
         if !good(r) {
             return Released::Refused(EditRefusal::List(ListRefusal::RefcountOrder));
         }
@@ -197,23 +180,23 @@ pub(crate) fn pass(
         if !follows(prev, r) {
             return Released::Refused(EditRefusal::List(ListRefusal::RefcountOrder));
         }
-        w = step(w, r, s, e, up, new, free, write, list);
+        w = step(w, r, s, e, how, new, free, pass);
         let next = i + 1;
         let j = unchanged(w, counts, next, s, e);
-        w = go_by(w, counts, next, j, new, write);
+        w = skip(w, counts, next, j, new, pass);
         i = j;
     }
     let clear = w.clear;
     if !clear {
         return Released::Refused(EditRefusal::Staging);
     }
-    if too_many(up, w.fit) {
+    if too_many(how, w.fit) {
         return Released::Refused(EditRefusal::Owners);
     }
     let j = w.joiner;
-    let filled = fill(j, w.gap, e, up, new, write);
-    let counts_len = finish(filled, new, write);
-    let free_len = put_run(free, w.free, w.gap, e, list);
+    let filled = fill(j, w.gap, e, how, new, pass);
+    let counts_len = finish(filled, new, pass);
+    let free_len = put_gap(free, w.free, w.gap, e, pass);
     Released::Done(Lengths {
         counts: counts_len,
         free: free_len,

@@ -2,10 +2,13 @@
 use crate::EditRefusal;
 use crate::Edited;
 use crate::Released;
+use crate::carried::Change;
+use crate::carried::Pass;
+use crate::extent::good_extent;
+use crate::extent::refuse_extent;
 use crate::pass::pass;
-use crate::refcounts::good_extent;
-use crate::refcounts::refuse_extent;
 use codec::check::ListRefusal;
+use codec::refcount::REFCOUNT_LEN;
 ghost use mathlib.Core.Path.{_≡_};
 ghost use Prim.Native.Nat.{_+_};
 ghost use lib.ListN.{length};
@@ -32,20 +35,20 @@ pub fn measure(counts: &[u8], startblock: u32, blockcount: u32) -> Edited
     if !good_extent(startblock, blockcount) {
         return counts_only(refuse_extent(counts, startblock, blockcount));
     }
-    if counts.len() % 12 != 0 {
+    if counts.len() % REFCOUNT_LEN != 0 {
         return Edited::Refused(EditRefusal::List(ListRefusal::Length));
     }
+    // a pass takes both buffers; one that measures leaves them alone, so a byte is lent for each
     let mut new = [0u8; 1];
     let mut free = [0u8; 1];
     counts_only(pass(
         counts,
         startblock,
         blockcount,
-        true,
+        Change::Raise,
         &mut new,
         &mut free,
-        false,
-        false,
+        Pass::Measure,
     ))
 }
 
@@ -55,15 +58,15 @@ pub fn write(counts: &[u8], startblock: u32, blockcount: u32, new: &mut [u8])
     ensures { λ _. ⌜ now (new .exit)
         ≡ withBytes (now (new .entry)) 0 (bytesOf refcounts (raise startblock (startblock + blockcount) (recordsOf refcounts (now (counts .entry))))) ⌝ }
 {
+    // no block is free after a raise: a byte is lent in place of the free extents, and not touched
     let mut free = [0u8; 1];
     pass(
         counts,
         startblock,
         blockcount,
-        true,
+        Change::Raise,
         new,
         &mut free,
-        true,
-        false,
+        Pass::Counts,
     );
 }

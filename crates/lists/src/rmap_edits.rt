@@ -1,18 +1,19 @@
-// Extents taken and given up in a reverse map: planned by value, then written. The old list is read, the new one goes to another buffer.
+// Extents taken and given up in a reverse map: a splice is prepared by value, then written. The old list is read, the new one goes to another buffer.
 use crate::EditRefusal;
 use crate::Edited;
-use crate::rmap_plans::Asked;
-use crate::rmap_plans::Edit;
-use crate::rmap_plans::Joined;
-use crate::rmap_plans::Part;
-use crate::rmap_plans::Plan;
-use crate::rmap_plans::Planned;
-use crate::rmap_plans::Scan;
+use crate::findings::Asked;
+use crate::findings::Joined;
+use crate::findings::Scan;
 use crate::search::after;
 use crate::search::asked;
 use crate::search::continues;
 use crate::search::seat;
-use crate::write::write_plan;
+use crate::splice::Edit;
+use crate::splice::Part;
+use crate::splice::Prepared;
+use crate::splice::Splice;
+use crate::write::write_splice;
+use codec::rmap::RMAP_LEN;
 use codec::rmap::Rmap;
 use codec::rmap::decode;
 use codec::rmap::exempt;
@@ -20,16 +21,16 @@ ghost use mathlib.Core.Path.{_≡_};
 ghost use mathlib.Core.Bool.{true, cond};
 ghost use Prim.Native.Nat.{_+_, _/_, _^_, _≤_, _<_};
 ghost use lib.ListN.{length};
+ghost use Rattle.codec.specs.Accepted.{endLimit};
 ghost use Rattle.codec.specs.Question.{done};
 ghost use Rattle.codec.specs.Records.{recordsOf, rmaps};
 ghost use Rattle.codec.specs.Rmaps.{end, exempt, good, accepted};
-ghost use Rattle.lists.specs.declared.rmap_plans.Edit.the-variants.{Insert, InsertShared, Remove};
+ghost use Rattle.lists.specs.declared.splice.Edit.the-variants.{Insert, InsertShared, Remove};
 ghost use Rattle.lists.specs.RmapEdits.{joined, later};
 ghost use Rattle.lists.specs.Answer.{EditIs, Inserts, InsertsShared, Removes};
-ghost use Rattle.lists.specs.RmapPlans.{editOutcome, Finds, TakeGood, joinAt, previous, partsOf, partCount, PartsGood, plannedOutcome, PlannedGood, PlanIs};
-
-// The bytes of a record.
-const RECORD: usize = 24;
+ghost use Rattle.lists.specs.Splice.{partsOf, partCount, PartsGood, preparedOutcome, PreparedGood, PreparedIs};
+ghost use Rattle.lists.specs.inner.Searches.{Finds, TakeGood};
+ghost use Rattle.lists.specs.inner.Splicing.{editOutcome, joinAt, previous};
 
 fn pick(t: bool, a: usize, b: usize) -> usize
     ensures { λ r. ⌜ r ≡ cond t a b ⌝ }
@@ -74,16 +75,16 @@ fn join(r: Rmap, s: Rmap) -> Rmap
 
 // x joined to the record i, behind it or before it, where one continues the other.
 fn join_at(old: &[u8], behind: bool, i: usize, x: Rmap) -> Joined
-    requires { ⌜ (accepted (recordsOf rmaps (now old)) ≡ true) × (end x ≤ 2 ^ 31) ⌝ }
+    requires { ⌜ (accepted (recordsOf rmaps (now old)) ≡ true) × (end x ≤ endLimit) ⌝ }
     ensures { λ j. ⌜ j ≡ joinAt behind (recordsOf rmaps (now (old .entry))) i x ⌝ }
 {
-    if old.len() / RECORD <= i {
+    if old.len() / RMAP_LEN <= i {
         return Joined {
             rmap: x,
             joins: false,
         };
     }
-    let r = decode(old, i * RECORD);
+    let r = decode(old, i * RMAP_LEN);
     let low = choose(behind, r, x);
     let high = choose(behind, x, r);
     if !continues(low, high) {
@@ -104,39 +105,39 @@ fn part_count(p: Part) -> usize
     requires { ⌜ (p .from ≤ p .to) × (p .to < 2 ^ 63) ⌝ }
     ensures { λ r. ⌜ r ≡ partCount p ⌝ }
 {
-    let run = p.to - p.from;
+    let copied = p.to - p.from;
     if p.some {
-        return 1 + run;
+        return 1 + copied;
     }
-    run
+    copied
 }
 
-// A new list planned from its parts, with its size.
-fn ready(old: &[u8], front: usize, first: Part, second: Part, rest: usize) -> Planned
-    requires { ⌜ PartsGood (length (now old) / 24) front first second rest ⌝ }
-    ensures { λ r. ⌜ (plannedOutcome (recordsOf rmaps (now (old .entry))) r ≡ done (partsOf (recordsOf rmaps (now (old .entry))) front first second rest))
-        × PlannedGood (recordsOf rmaps (now (old .entry))) r ⌝ }
+// The splice of the parts, with its size.
+fn ready(old: &[u8], front: usize, first: Part, second: Part, rest: usize) -> Prepared
+    requires { ⌜ PartsGood (length (now old) / rmaps .size) front first second rest ⌝ }
+    ensures { λ r. ⌜ (preparedOutcome (recordsOf rmaps (now (old .entry))) r ≡ done (partsOf (recordsOf rmaps (now (old .entry))) front first second rest))
+        × PreparedGood (recordsOf rmaps (now (old .entry))) r ⌝ }
 {
-    let n = old.len() / RECORD;
+    let n = old.len() / RMAP_LEN;
     let count = front + part_count(first) + part_count(second) + (n - rest);
-    Planned::Ready(Plan {
+    Prepared::Ready(Splice {
         front,
         first,
         second,
         rest,
-        size: count * RECORD,
+        size: count * RMAP_LEN,
     })
 }
 
-// Question 23 of `insert`, and its plan.
-fn place_insert(old: &[u8], x: Rmap, s: Scan) -> Planned
+// Question 23 of `insert`, and its splice.
+fn place_insert(old: &[u8], x: Rmap, s: Scan) -> Prepared
     requires { ⌜ TakeGood (now old) x × Finds Insert x (recordsOf rmaps (now old)) s ⌝ }
-    ensures { λ p. ⌜ PlanIs Insert (now (old .entry)) x p ⌝ }
+    ensures { λ p. ⌜ PreparedIs Insert (now (old .entry)) x p ⌝ }
 {
-    let n = old.len() / RECORD;
+    let n = old.len() / RMAP_LEN;
     let at = after(old, x);
-    if s.first < n {
-        return Planned::Refused(EditRefusal::Overlap);
+    if s.conflict < n {
+        return Prepared::Refused(EditRefusal::Overlap);
     }
     let h = join_at(old, false, at, x);
     let y = h.rmap;
@@ -160,16 +161,16 @@ fn place_insert(old: &[u8], x: Rmap, s: Scan) -> Planned
     ready(old, front, first, second, rest)
 }
 
-// Question 23 of `insert_shared`, and its plan.
-fn place_shared(old: &[u8], x: Rmap, s: Scan) -> Planned
+// Question 23 of `insert_shared`, and its splice.
+fn place_shared(old: &[u8], x: Rmap, s: Scan) -> Prepared
     requires { ⌜ TakeGood (now old) x × Finds InsertShared x (recordsOf rmaps (now old)) s ⌝ }
-    ensures { λ p. ⌜ PlanIs InsertShared (now (old .entry)) x p ⌝ }
+    ensures { λ p. ⌜ PreparedIs InsertShared (now (old .entry)) x p ⌝ }
 {
-    if s.first < old.len() / RECORD {
-        return Planned::Refused(EditRefusal::Overlap);
+    if s.conflict < old.len() / RMAP_LEN {
+        return Prepared::Refused(EditRefusal::Overlap);
     }
-    let i = s.second;
-    let j = s.third;
+    let i = s.before;
+    let j = s.after;
     let l = join_at(old, true, i, x);
     let y = l.rmap;
     let h = join_at(old, false, j, y);
@@ -209,8 +210,8 @@ fn later(x: Rmap, w: Rmap) -> Rmap
     requires { ⌜ (good w ≡ true) × (w .startblock ≤ x .startblock) × (end x ≤ end w) ⌝ }
     ensures { λ r. ⌜ r ≡ later x w ⌝ }
 {
-    let stop = x.startblock as u64 + x.blockcount as u64;
-    let whole = w.startblock as u64 + w.blockcount as u64;
+    let stop = x.end();
+    let whole = w.end();
     let offset = moved(w, stop - w.startblock as u64);
     Rmap {
         startblock: stop as u32,
@@ -220,19 +221,19 @@ fn later(x: Rmap, w: Rmap) -> Rmap
     }
 }
 
-// Question 24 of `remove`, and its plan.
-fn place_remove(old: &[u8], x: Rmap, s: Scan) -> Planned
+// Question 24 of `remove`, and its splice.
+fn place_remove(old: &[u8], x: Rmap, s: Scan) -> Prepared
     requires { ⌜ TakeGood (now old) x × Finds Remove x (recordsOf rmaps (now old)) s ⌝ }
-    ensures { λ p. ⌜ PlanIs Remove (now (old .entry)) x p ⌝ }
+    ensures { λ p. ⌜ PreparedIs Remove (now (old .entry)) x p ⌝ }
 {
-    let n = old.len() / RECORD;
-    let i = s.first;
-    let j = s.second;
+    let n = old.len() / RMAP_LEN;
+    let i = s.aligned;
+    let j = s.containing;
     let at = pick(i < n, i, j);
     if n <= at {
-        return Planned::Refused(EditRefusal::Missing);
+        return Prepared::Refused(EditRefusal::Missing);
     }
-    let w = decode(old, at * RECORD);
+    let w = decode(old, at * RMAP_LEN);
     let k = later(x, w);
     let place = seat(old, k);
     let f = Rmap {
@@ -248,8 +249,7 @@ fn place_remove(old: &[u8], x: Rmap, s: Scan) -> Planned
         to: place,
     };
     let second = Part {
-        some: x.startblock as u64 + (x.blockcount as u64)
-            < w.startblock as u64 + w.blockcount as u64,
+        some: x.end() < w.end(),
         rmap: k,
         from: place,
         to: place,
@@ -257,13 +257,13 @@ fn place_remove(old: &[u8], x: Rmap, s: Scan) -> Planned
     ready(old, at, first, second, place)
 }
 
-// An edit planned: the questions 19, 20, 22, and 23 or 24, then the new list. Nothing is written.
-pub fn plan(old: &[u8], e: Edit, x: Rmap) -> Planned
-    ensures { λ p. ⌜ PlanIs e (now (old .entry)) x p ⌝ }
+// An edit prepared: the questions 19, 20, 22, and 23 or 24, then the new list. Nothing is written.
+pub fn prepare(old: &[u8], e: Edit, x: Rmap) -> Prepared
+    ensures { λ p. ⌜ PreparedIs e (now (old .entry)) x p ⌝ }
 {
     let found = asked(old, e, x);
     match found {
-        Asked::Refused(q) => Planned::Refused(q),
+        Asked::Refused(q) => Prepared::Refused(q),
         Asked::Found(s) => match e {
             Edit::Insert => place_insert(old, x, s),
             Edit::InsertShared => place_shared(old, x, s),
@@ -272,19 +272,19 @@ pub fn plan(old: &[u8], e: Edit, x: Rmap) -> Planned
     }
 }
 
-// An edit planned, 26 asked, and the new list written; a refusal writes nothing.
+// An edit prepared, 26 asked, and the new list written; a refusal writes nothing.
 fn edit(old: &[u8], e: Edit, x: Rmap, new: &mut [u8]) -> Edited
     ensures { λ r. ⌜ EditIs (editOutcome e (now (old .entry)) x (length (now (new .entry)))) r (now (new .entry)) (now (new .exit)) ⌝ }
 {
-    let planned = plan(old, e, x);
-    match planned {
-        Planned::Refused(q) => Edited::Refused(q),
-        Planned::Ready(p) => {
+    let prepared = prepare(old, e, x);
+    match prepared {
+        Prepared::Refused(q) => Edited::Refused(q),
+        Prepared::Ready(p) => {
             let size = p.size;
             if new.len() < size {
                 return Edited::Refused(EditRefusal::Room);
             }
-            write_plan(old, p, new);
+            write_splice(old, p, new);
             Edited::Done(size)
         }
     }

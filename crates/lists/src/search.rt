@@ -1,10 +1,11 @@
 // Searches of a reverse map: two records beside each other, one pass over a list that asks 20 and finds what an edit needs, and the place of a record.
 use crate::EditRefusal;
-use crate::rmap_plans::Asked;
-use crate::rmap_plans::Edit;
-use crate::rmap_plans::Hits;
-use crate::rmap_plans::Scan;
+use crate::findings::Asked;
+use crate::findings::Hits;
+use crate::findings::Scan;
+use crate::splice::Edit;
 use codec::check::ListRefusal;
+use codec::rmap::RMAP_LEN;
 use codec::rmap::Rmap;
 use codec::rmap::comes_before;
 use codec::rmap::decode;
@@ -16,16 +17,8 @@ ghost use Prim.Native.Nat.{_≤_};
 ghost use lib.Dec.{ltb};
 ghost use Rattle.codec.specs.Records.{recordsOf, rmaps};
 ghost use Rattle.codec.specs.Rmaps.{flags, good, follows, accepted};
-ghost use Rattle.lists.specs.RmapEdits.{continues, overlaps, clash, contains, linesUp};
-ghost use Rattle.lists.specs.RmapPlans.{alike, indexWhere, touches, tests, seat, noteOf, Noted, ScanIs, AskedIs};
-
-// The bytes of a record.
-const RECORD: usize = 24;
-
-// The first owner that is reserved, and one more than the largest file offset.
-const RESERVED: u64 = 0x8000_0000_0000_0000;
-
-const OFF_LIMIT: u64 = 0x40_0000_0000_0000;
+ghost use Rattle.lists.specs.RmapEdits.{continues, overlaps, clash, contains, linesUp, alike};
+ghost use Rattle.lists.specs.inner.Searches.{indexWhere, touches, tests, seat, noteOf, Noted, ScanIs, AskedIs};
 
 // Have the records the same owner and flags?
 fn alike(r: Rmap, s: Rmap) -> bool
@@ -34,7 +27,7 @@ fn alike(r: Rmap, s: Rmap) -> bool
     if r.owner != s.owner {
         return false;
     }
-    r.offset / OFF_LIMIT == s.offset / OFF_LIMIT
+    r.flags() == s.flags()
 }
 
 // Does s continue r?
@@ -44,13 +37,13 @@ pub(crate) fn continues(r: Rmap, s: Rmap) -> bool
     if !alike(r, s) {
         return false;
     }
-    if r.startblock as u64 + r.blockcount as u64 != s.startblock as u64 {
+    if r.end() != s.startblock as u64 {
         return false;
     }
-    if RESERVED <= r.owner {
+    if r.is_reserved() {
         return true;
     }
-    r.offset % OFF_LIMIT + r.blockcount as u64 == s.offset % OFF_LIMIT
+    r.file_offset() + r.blockcount as u64 == s.file_offset()
 }
 
 // Does the file offset of r line up with that of x?
@@ -60,17 +53,17 @@ fn lines_up(x: Rmap, r: Rmap) -> bool
     if exempt(r) {
         return true;
     }
-    r.offset % OFF_LIMIT + x.startblock as u64 == x.offset % OFF_LIMIT + r.startblock as u64
+    r.file_offset() + x.startblock as u64 == x.file_offset() + r.startblock as u64
 }
 
 // Have x and r a block in common?
 fn overlaps(x: Rmap, r: Rmap) -> bool
     ensures { λ t. ⌜ t ≡ overlaps x r ⌝ }
 {
-    if x.startblock as u64 + x.blockcount as u64 <= r.startblock as u64 {
+    if x.end() <= r.startblock as u64 {
         return false;
     }
-    (x.startblock as u64) < r.startblock as u64 + r.blockcount as u64
+    (x.startblock as u64) < r.end()
 }
 
 // Do x and r overlap as no two shared mappings may?
@@ -99,7 +92,7 @@ fn contains(x: Rmap, r: Rmap) -> bool
     if x.startblock < r.startblock {
         return false;
     }
-    x.startblock as u64 + x.blockcount as u64 <= r.startblock as u64 + r.blockcount as u64
+    x.end() <= r.end()
 }
 
 // What r passes of the searches of an edit.
@@ -108,27 +101,35 @@ fn hits(e: Edit, x: Rmap, r: Rmap) -> Hits
 {
     match e {
         Edit::Insert => Hits {
-            first: overlaps(x, r),
-            second: false,
-            third: false,
+            conflict: overlaps(x, r),
+            before: false,
+            after: false,
+            aligned: false,
+            containing: false,
         },
         Edit::InsertShared => Hits {
-            first: clash(x, r),
-            second: continues(r, x),
-            third: continues(x, r),
+            conflict: clash(x, r),
+            before: continues(r, x),
+            after: continues(x, r),
+            aligned: false,
+            containing: false,
         },
         Edit::Remove => {
             if !contains(x, r) {
                 return Hits {
-                    first: false,
-                    second: false,
-                    third: false,
+                    conflict: false,
+                    before: false,
+                    after: false,
+                    aligned: false,
+                    containing: false,
                 };
             }
             Hits {
-                first: lines_up(x, r),
-                second: true,
-                third: false,
+                conflict: false,
+                before: false,
+                after: false,
+                aligned: lines_up(x, r),
+                containing: true,
             }
         }
     }
@@ -151,15 +152,15 @@ fn note(found: usize, n: usize, i: usize, hit: bool) -> usize
 fn touches(x: Rmap, r: Rmap) -> bool
     ensures { λ t. ⌜ t ≡ touches x r ⌝ }
 {
-    if r.startblock as u64 + (r.blockcount as u64) < x.startblock as u64 {
+    if r.end() < x.startblock as u64 {
         return false;
     }
-    r.startblock as u64 <= x.startblock as u64 + x.blockcount as u64
+    r.startblock as u64 <= x.end()
 }
 
 // What was found, with the record i. One that does not touch x passes nothing.
 fn noted(s: Scan, e: Edit, x: Rmap, r: Rmap, i: usize, n: usize) -> Scan
-    requires { ⌜ (s .first ≤ n) × (s .second ≤ n) × (s .third ≤ n) ⌝ }
+    requires { ⌜ (s .conflict ≤ n) × (s .before ≤ n) × (s .after ≤ n) × (s .aligned ≤ n) × (s .containing ≤ n) ⌝ }
     ensures { λ k. ⌜ Noted (tests e x r) i n s k ⌝ }
 {
     if !touches(x, r) {
@@ -168,9 +169,11 @@ fn noted(s: Scan, e: Edit, x: Rmap, r: Rmap, i: usize, n: usize) -> Scan
     let h = hits(e, x, r);
     Scan {
         ordered: s.ordered,
-        first: note(s.first, n, i, h.first),
-        second: note(s.second, n, i, h.second),
-        third: note(s.third, n, i, h.third),
+        conflict: note(s.conflict, n, i, h.conflict),
+        before: note(s.before, n, i, h.before),
+        after: note(s.after, n, i, h.after),
+        aligned: note(s.aligned, n, i, h.aligned),
+        containing: note(s.containing, n, i, h.containing),
     }
 }
 
@@ -184,12 +187,12 @@ fn passes(prev: Rmap, r: Rmap) -> bool
     !comes_before(r, prev)
 }
 
-// Question 20, and what an edit searches for, in one pass. A record is read before the one in front of it is tested: then it compiles to whole
-// loads.
+// Question 20, and what an edit searches for, in one pass. A record is read before the one in front of it is tested: with no branch between its
+// bytes they compile to whole loads.
 fn scan(list: &[u8], e: Edit, x: Rmap) -> Scan
     ensures { λ s. ⌜ ScanIs e x (recordsOf rmaps (now (list .entry))) s ⌝ }
 {
-    let n = list.len() / RECORD;
+    let n = list.len() / RMAP_LEN;
     let mut prev = Rmap {
         startblock: 0,
         blockcount: 0,
@@ -202,25 +205,29 @@ fn scan(list: &[u8], e: Edit, x: Rmap) -> Scan
     }
     let mut s = Scan {
         ordered: true,
-        first: n,
-        second: n,
-        third: n,
+        conflict: n,
+        before: n,
+        after: n,
+        aligned: n,
+        containing: n,
     };
     let mut i = 0;
     while i < n {
         if !passes(prev, r) {
             return Scan {
                 ordered: false,
-                first: n,
-                second: n,
-                third: n,
+                conflict: n,
+                before: n,
+                after: n,
+                aligned: n,
+                containing: n,
             };
         }
         s = noted(s, e, x, r, i, n);
         prev = r;
         i += 1;
         if i < n {
-            r = decode(list, i * RECORD);
+            r = decode(list, i * RMAP_LEN);
         }
     }
     s
@@ -230,7 +237,7 @@ fn scan(list: &[u8], e: Edit, x: Rmap) -> Scan
 pub(crate) fn asked(list: &[u8], e: Edit, x: Rmap) -> Asked
     ensures { λ r. ⌜ AskedIs e (now (list .entry)) x r ⌝ }
 {
-    if list.len() % RECORD != 0 {
+    if list.len() % RMAP_LEN != 0 {
         return Asked::Refused(EditRefusal::List(ListRefusal::Length));
     }
     let s = scan(list, e, x);
@@ -249,10 +256,10 @@ pub(crate) fn seat(list: &[u8], z: Rmap) -> usize
     ensures { λ r. ⌜ r ≡ seat z (recordsOf rmaps (now (list .entry))) ⌝ }
 {
     let mut low = 0;
-    let mut high = list.len() / RECORD;
+    let mut high = list.len() / RMAP_LEN;
     while low < high {
         let mid = low + (high - low) / 2;
-        let r = decode(list, mid * RECORD);
+        let r = decode(list, mid * RMAP_LEN);
         if comes_before(r, z) {
             low = mid + 1;
         } else {

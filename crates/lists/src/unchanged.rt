@@ -1,9 +1,12 @@
-// Runs of shared counts that an edit leaves as they are: found in one go, and copied as bytes.
-use crate::copy::copy_if;
+// Shared counts that an edit leaves as they are: a run of them is found in one go, and copied as bytes.
+use crate::carried::Carried;
+use crate::carried::Joiner;
+use crate::carried::Pass;
 use crate::gaps::larger;
-use crate::join::Joiner;
 use crate::join::finish;
-use crate::pass::Walk;
+use codec::check::END_LIMIT;
+use codec::copy::copy;
+use codec::refcount::REFCOUNT_LEN;
 use codec::refcount::Refcount;
 use codec::refcount::decode;
 ghost use mathlib.Core.Path.{_≡_};
@@ -11,28 +14,30 @@ ghost use mathlib.Core.Bool.{true, false};
 ghost use Prim.Native.Nat.{_+_, _/_, _<_, _≤_};
 ghost use lib.ListN.{length};
 ghost use Rattle.codec.specs.Records.{recordsOf, refcounts};
-ghost use Rattle.lists.specs.Staying.{Stays, AllStay, part, behind, Unchanged, GoneAsks, Gone};
+ghost use Rattle.lists.specs.Splice.{between};
+ghost use Rattle.lists.specs.inner.Passes.{writesCounts, putIf};
+ghost use Rattle.lists.specs.inner.Staying.{Stays, AllStay, behind, Unchanged, SkipAsks, Skipped};
 
-// Do owners that begin at `start` join those that stop at `stop`?
-fn joins(start: u64, owners: u32, stop: u64, held: u32) -> bool
-    ensures { λ t. ⌜ (t ≡ false → start ≡ stop → owners ≡ held → ⊥) ⌝ }
+// Do `owners` from `start` on join the `last` ones, which stop at `stop`?
+fn joins(start: u64, owners: u32, stop: u64, last: u32) -> bool
+    ensures { λ t. ⌜ (t ≡ false → start ≡ stop → owners ≡ last → ⊥) ⌝ }
 {
     if start == stop {
-        return owners == held;
+        return owners == last;
     }
     false
 }
 
-// Does a record stay behind the place `stop`, where `held` owners stop? It is good and shared, joins nothing, and lies before `s` or from `high` on.
-fn stays(r: Refcount, stop: u64, held: u32, s: u64, high: u64) -> bool
-    ensures { λ t. ⌜ (t ≡ true → Stays stop held s high r) ⌝ }
+// Does a record stay behind the place `stop`, where so many `owners` stop? It is good and shared, joins nothing, and lies before `s` or from `high` on.
+fn stays(r: Refcount, stop: u64, owners: u32, s: u64, high: u64) -> bool
+    ensures { λ t. ⌜ (t ≡ true → Stays stop owners s high r) ⌝ }
 {
     let start = r.startblock as u64;
     let end = start + r.blockcount as u64;
     if r.blockcount == 0 {
         return false;
     }
-    if 0x8000_0000 < end {
+    if END_LIMIT < end {
         return false;
     }
     if r.refcount < 2 {
@@ -41,7 +46,7 @@ fn stays(r: Refcount, stop: u64, held: u32, s: u64, high: u64) -> bool
     if start < stop {
         return false;
     }
-    if joins(start, r.refcount, stop, held) {
+    if joins(start, r.refcount, stop, owners) {
         return false;
     }
     if end <= s {
@@ -52,21 +57,21 @@ fn stays(r: Refcount, stop: u64, held: u32, s: u64, high: u64) -> bool
 
 // The end of a run of records that stay, from number i on.
 fn run_end(counts: &[u8], i: usize, stop: u64, owners: u32, s: u64, high: u64) -> usize
-    requires { ⌜ i ≤ length (now counts) / 12 ⌝ }
-    ensures { λ j. ⌜ (i ≤ j) × (j ≤ length (now (counts .entry)) / 12) ⌝ }
-    ensures { λ j. ⌜ AllStay stop owners s high (part (recordsOf refcounts (now (counts .entry))) i j) ⌝ }
+    requires { ⌜ i ≤ length (now counts) / refcounts .size ⌝ }
+    ensures { λ j. ⌜ (i ≤ j) × (j ≤ length (now (counts .entry)) / refcounts .size) ⌝ }
+    ensures { λ j. ⌜ AllStay stop owners s high (between (recordsOf refcounts (now (counts .entry))) i j) ⌝ }
 {
-    let n = counts.len() / 12;
+    let n = counts.len() / REFCOUNT_LEN;
     let mut j = i;
-    let mut last = stop;
-    let mut held = owners;
+    let mut last_stop = stop;
+    let mut last_owners = owners;
     while j < n {
-        let r = decode(counts, j * 12);
-        if !stays(r, last, held, s, high) {
+        let r = decode(counts, j * REFCOUNT_LEN);
+        if !stays(r, last_stop, last_owners, s, high) {
             return j;
         }
-        last = r.startblock as u64 + r.blockcount as u64;
-        held = r.refcount;
+        last_stop = r.startblock as u64 + r.blockcount as u64;
+        last_owners = r.refcount;
         j += 1;
     }
     j
@@ -91,10 +96,10 @@ fn inside(place: u64, s: u64, e: u64) -> bool {
 }
 
 // The end of a run of records that an edit of `s` up to `e` leaves as they are, from number i on; i if there is none.
-pub(crate) fn unchanged(w: Walk, counts: &[u8], i: usize, s: u64, e: u64) -> usize
-    requires { ⌜ i ≤ length (now counts) / 12 ⌝ }
-    ensures { λ j. ⌜ (i ≤ j) × (j ≤ length (now (counts .entry)) / 12) ⌝ }
-    ensures { λ j. ⌜ Unchanged s e w (part (recordsOf refcounts (now (counts .entry))) i j) ⌝ }
+pub(crate) fn unchanged(w: Carried, counts: &[u8], i: usize, s: u64, e: u64) -> usize
+    requires { ⌜ i ≤ length (now counts) / refcounts .size ⌝ }
+    ensures { λ j. ⌜ (i ≤ j) × (j ≤ length (now (counts .entry)) / refcounts .size) ⌝ }
+    ensures { λ j. ⌜ Unchanged s e w (between (recordsOf refcounts (now (counts .entry))) i j) ⌝ }
 {
     if inside(w.gap, s, e) {
         return i;
@@ -106,29 +111,48 @@ pub(crate) fn unchanged(w: Walk, counts: &[u8], i: usize, s: u64, e: u64) -> usi
     run_end(counts, i, stop, waits.owners, s, high)
 }
 
-// Carries on behind the records from number i up to j, which stay. The last one waits; with `write` those before it are copied.
-pub(crate) fn go_by(w: Walk, counts: &[u8], i: usize, j: usize, new: &mut [u8], write: bool) -> Walk
-    requires { ⌜ GoneAsks write w i j (now counts) (length (now new)) ⌝ }
-    ensures { λ k. ⌜ Gone write w (part (recordsOf refcounts (now (counts .entry))) i j) (now (new .entry)) k (now (new .exit)) ⌝ }
+// Puts bytes of the old counts at a place of `new`, in a pass that writes.
+fn put_counts(bytes: &[u8], new: &mut [u8], at: usize, pass: Pass)
+    requires { ⌜ (writesCounts pass ≡ true → at + length (now bytes) ≤ length (now new)) ⌝ }
+    ensures { λ _. ⌜ now (new .exit) ≡ putIf (writesCounts pass) (now (new .entry)) at (now (bytes .entry)) ⌝ }
+{
+    if !pass.writes_counts() {
+        return;
+    }
+    copy(bytes, new, at);
+}
+
+// Carries on behind the records from number i up to j, which stay. The last one waits; a pass that writes copies those before it.
+pub(crate) fn skip(
+    w: Carried,
+    counts: &[u8],
+    i: usize,
+    j: usize,
+    new: &mut [u8],
+    pass: Pass,
+) -> Carried
+    requires { ⌜ SkipAsks (writesCounts pass) w i j (now counts) (length (now new)) ⌝ }
+    ensures { λ k. ⌜ Skipped (writesCounts pass) w (between (recordsOf refcounts (now (counts .entry))) i j) (now (new .entry)) k (now (new .exit)) ⌝ }
 {
     if j <= i {
         return w;
     }
     let last = j - 1;
-    let size = (last - i) * 12;
+    let from = i * REFCOUNT_LEN;
+    let to = last * REFCOUNT_LEN;
     let waits = w.joiner;
-    let at = finish(waits, new, write);
-    copy_if(counts, i * 12, size, new, at, write);
-    let r = decode(counts, last * 12);
+    let at = finish(waits, new, pass);
+    put_counts(&counts[from..to], new, at, pass);
+    let r = decode(counts, to);
     let end = r.startblock as u64 + r.blockcount as u64;
     let gap = larger(w.gap, end);
-    Walk {
+    Carried {
         prev: r,
         joiner: Joiner {
             start: r.startblock,
             count: r.blockcount,
             owners: r.refcount,
-            at: at + size,
+            at: at + (to - from),
         },
         gap: gap,
         free: w.free,

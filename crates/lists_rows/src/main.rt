@@ -2,11 +2,11 @@
 use codec::rmap::Rmap;
 use lists::Edited;
 use lists::Released;
-use lists::edit_number;
 use lists::rmap_edits::insert;
 use lists::rmap_edits::insert_shared;
 use lists::rmap_edits::remove;
-use lists::rmap_plans::Edit;
+use lists::splice::Edit;
+use show::lines::show_told;
 use show::lines::words;
 
 // A name, and a number in decimal.
@@ -24,7 +24,9 @@ fn answer(name: &[u8], r: Edited) {
     io::write_all(1, name);
     match r {
         Edited::Done(n) => number(b" done ", n as u64),
-        Edited::Refused(q) => number(b" refused ", edit_number(q) as u64),
+        Edited::Refused(q) => {
+            show_told(q.told());
+        }
     }
     newline();
 }
@@ -116,7 +118,7 @@ fn let_go(counts: &[u8], startblock: u32, blockcount: u32) {
             number(b"done ", lengths.counts as u64);
             number(b" ", lengths.free as u64);
         }
-        Released::Refused(why) => number(b"refused ", edit_number(why) as u64),
+        Released::Refused(why) => number(b"refused ", why.told().number as u64),
     }
     newline();
     words(&new);

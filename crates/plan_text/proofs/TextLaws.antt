@@ -18,11 +18,12 @@ use Rattle.codec.proofs.Parts.{length-withBytes, withBytes-one, withBytes-add}
 use Rattle.codec.proofs.Stores.{withBytes-none}
 use Rattle.blocks.specs.Geometry.{geometryOk, isVersion, isBlockSize}
 use Rattle.trees.specs.Plan.{sum, planned}
-use Rattle.trees.specs.Walk.{perLeaf, perNode}
-use Rattle.trees.specs.Shapes.{shapeOf}
-use Rattle.trees.specs.PlanAnswer.{planOutcome, levelsIn, answerOutcome, levelsSaid, PlanIs}
+use Rattle.walks.specs.Walk.{perLeaf, perNode}
+use Rattle.walks.specs.Shapes.{shapeOf}
+use Rattle.trees.specs.PlanAnswer.{planNumber, planOutcome, levelsIn, answerOutcome, levelsSaid, PlanIs}
 use Rattle.trees.specs.declared.plan.PlanAnswer.{PlanAnswer}
-use Rattle.trees.specs.declared.plan.PlanAnswer.the-variants.{Levels, BadGeometry, TooManyLevels}
+use Rattle.trees.specs.declared.plan.PlanAnswer.the-variants.{Levels, Refused}
+use Rattle.trees.specs.declared.plan.PlanRefusal.{PlanRefusal}
 use Rattle.trees.specs.declared.plan.Planned.{Planned}
 use Rattle.plan_text.specs.declared.line.Request.{Request}
 use Rattle.plan_text.specs.Line.{request}
@@ -182,11 +183,8 @@ length-plan levels = length-append (levelLines 0 levels) (numberLine blocksWord 
 -- ---- what a plan's answer makes of its text
 
 module _ (o : Outcome (List ℕ)) (p : Planned) (is : PlanIs o p) where
-  pub text-geometry : p .answer ≡ BadGeometry → planText o ≡ refusedLine 1
-  text-geometry e = ap planText (sym (is .outcome)) ∙ ap (λ (a : PlanAnswer). planText (answerOutcome a (p .blocks))) e
-
-  pub text-levels : p .answer ≡ TooManyLevels → planText o ≡ refusedLine 16
-  text-levels e = ap planText (sym (is .outcome)) ∙ ap (λ (a : PlanAnswer). planText (answerOutcome a (p .blocks))) e
+  pub text-refused : (r : PlanRefusal) → p .answer ≡ Refused r → planText o ≡ refusedLine (planNumber r)
+  text-refused r e = ap planText (sym (is .outcome)) ∙ ap (λ (a : PlanAnswer). planText (answerOutcome a (p .blocks))) e
 
   module _ (n : ℕ) (e : p .answer ≡ Levels n) where
     pub text-few : n ≤ 9

@@ -6,7 +6,7 @@ ghost use Prim.Native.Nat.{_+_, _*_, _<_};
 ghost use lib.ListN.{length};
 ghost use Rattle.blocks.specs.Check.{same};
 ghost use Rattle.plan_text.specs.Line.{spaceAt, kindOf, isNumber, value, requestOf, lineOf, request};
-ghost use Rattle.plan_text.specs.Answer.{asked, number, named};
+ghost use Rattle.plan_text.specs.inner.Readings.{asked, number, named};
 use blocks::kind::TreeKind;
 
 // A plan that is asked for.

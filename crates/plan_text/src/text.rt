@@ -80,8 +80,7 @@ fn put_plan(out: &mut [u8], g: Geometry, kind: TreeKind, records: u64) -> usize
     let planned = plan(g, kind, records);
     let answer = planned.answer;
     match answer {
-        PlanAnswer::BadGeometry => put_line(out, 0, b"refused ", 1),
-        PlanAnswer::TooManyLevels => put_line(out, 0, b"refused ", 16),
+        PlanAnswer::Refused(why) => put_line(out, 0, b"refused ", why.told().number as u64),
         PlanAnswer::Levels(n) => {
             let blocks = planned.blocks;
             let at = put_levels(out, blocks, n);

@@ -5,22 +5,22 @@ ghost use mathlib.Core.Path.{_≡_};
 ghost use lib.ListN.{length};
 use codec::endian::be32;
 use codec::endian::be64;
-use exports::block_calls::kf_check_block;
-use exports::block_calls::kf_check_refcounts;
-use exports::block_calls::kf_check_rmaps;
-use exports::block_calls::kf_crc32c;
-use exports::block_calls::kf_crc32c_singly;
-use exports::list_calls::kf_insert;
-use exports::list_calls::kf_insert_shared;
-use exports::list_calls::kf_let_go;
-use exports::list_calls::kf_release;
-use exports::list_calls::kf_remove;
-use exports::list_calls::kf_take_held;
-use exports::tree_calls::kf_build;
-use exports::tree_calls::kf_plan;
-use exports::tree_calls::kf_walk;
+use list_calls::edits::kf_insert;
+use list_calls::edits::kf_insert_shared;
+use list_calls::edits::kf_let_go;
+use list_calls::edits::kf_release;
+use list_calls::edits::kf_remove;
+use list_calls::edits::kf_take_held;
 use show::places::all32;
 use show::places::all64;
+use tree_calls::block_calls::kf_check_block;
+use tree_calls::block_calls::kf_crc32c;
+use tree_calls::block_calls::kf_crc32c_singly;
+use tree_calls::list_checks::kf_check_refcounts;
+use tree_calls::list_checks::kf_check_rmaps;
+use tree_calls::whole_trees::kf_build;
+use tree_calls::whole_trees::kf_plan;
+use tree_calls::whole_trees::kf_walk;
 
 // A name, and a number in decimal.
 fn print_number(name: &[u8], n: u64) {

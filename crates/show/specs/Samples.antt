@@ -7,6 +7,7 @@ use lib.Dec.{leb}
 use lib.ListN.{length, set}
 use Rattle.blocks.specs.declared.geometry.Geometry.{Geometry}
 use Rattle.blocks.specs.declared.kind.TreeKind.{TreeKind}
+use Rattle.blocks.specs.Offsets.{v5HeaderLen}
 use Rattle.blocks.specs.Geometry.{geometryOk}
 use Rattle.blocks.specs.Tree.{headerLen, hasTree}
 use Rattle.blocks.specs.Stamp.{stamped, withCrc}
@@ -27,7 +28,7 @@ freshBetween g kind block level numrecs left right b =
 
 -- with the check put in again, where there is room for it
 abbrev pub sealed : List ℕ → List ℕ
-sealed b = cond (leb 56 (length b)) (withCrc b) b
+sealed b = cond (leb v5HeaderLen (length b)) (withCrc b) b
 
 -- damaged at one byte, and sealed where asked
 abbrev pub damaged : List ℕ → ℕ → ℕ → Bool → List ℕ

@@ -1,12 +1,14 @@
 // The blocks that the test programs make and damage.
 ghost use mathlib.Core.Path.{_≡_};
 ghost use lib.ListN.{set};
+ghost use Rattle.blocks.specs.Geometry.{nullAgBlock};
 ghost use Rattle.show.specs.Samples.{sampleGeometry, freshBetween, sealed, damaged};
 use blocks::geometry::AgBlock;
 use blocks::geometry::Geometry;
 use blocks::geometry::NULL_AGBLOCK;
 use blocks::kind::TreeKind;
 use blocks::kind::header_len;
+use blocks::offsets;
 use blocks::stamp::stamp;
 use codec::crc::crc32c_with_zeroed_crc;
 use codec::endian::put_le32;
@@ -62,7 +64,7 @@ pub fn between(
 
 // The same with no siblings.
 pub fn fresh(g: Geometry, kind: TreeKind, block: u32, level: u16, numrecs: u16, b: &mut [u8])
-    ensures { λ _. ⌜ now (b .exit) ≡ freshBetween g kind block level numrecs 4294967295 4294967295 (now (b .entry)) ⌝ }
+    ensures { λ _. ⌜ now (b .exit) ≡ freshBetween g kind block level numrecs nullAgBlock nullAgBlock (now (b .entry)) ⌝ }
 {
     between(
         g,
@@ -88,11 +90,11 @@ fn put(b: &mut [u8], at: usize, value: u8)
 fn seal(b: &mut [u8])
     ensures { λ _. ⌜ now (b .exit) ≡ sealed (now (b .entry)) ⌝ }
 {
-    if b.len() < 56 {
+    if b.len() < offsets::V5_HEADER_LEN {
         return;
     }
-    let crc = crc32c_with_zeroed_crc(b, 52);
-    put_le32(b, 52, crc);
+    let crc = crc32c_with_zeroed_crc(b, offsets::CRC);
+    put_le32(b, offsets::CRC, crc);
 }
 
 // A block damaged at one byte, its check put in again where asked.

@@ -13,7 +13,7 @@ use Rattle.codec.proofs.FieldLists.{isBytes-take, isBytes-drop, isBytes-append,
 use Rattle.codec.proofs.Numbers.{length-beBytes, beOf-beBytes-lt}
 use Rattle.trees.specs.Plan.{sum, shares}
 use Rattle.trees.specs.BlockLayout.{Layout, capacity, Sized, Sound}
-use Rattle.trees.specs.Walk.{perLeaf, perNode, Visit, visitOf, good, blockIn, pointers, firstPointer, under, lookIn}
+use Rattle.walks.specs.Walk.{perLeaf, perNode, Visit, visitOf, good, blockIn, pointers, firstPointer, under, lookIn}
 use Rattle.trees.specs.Build.{Child, Part, Block, padded, keysOf, pointersOf, leafPart, nodePart, leafParts, nodeParts, blockBytes, blocksOf, childrenOf, buildAbove, AreNumbers}
 use Rattle.trees.proofs.Sharing.{Shaped, Most, shares-most}
 use Rattle.trees.proofs.LevelWalk.{visitsTo, numbersOf, NodesSeen, AboveSeen, next-length, next-numbers}

@@ -26,17 +26,18 @@ use Rattle.blocks.specs.Geometry.{geometryOk}
 use Rattle.blocks.specs.Tree.{hasTree, recordLen}
 use Rattle.blocks.proofs.Laws.{blocksize-within}
 use Rattle.trees.specs.Plan.{levelsOf, sum}
-use Rattle.trees.specs.Walk.{perLeaf, perNode}
-use Rattle.trees.specs.Shapes.{shapeOf}
-use Rattle.trees.specs.PlanAnswer.{LevelsAre}
+use Rattle.walks.specs.Walk.{perLeaf, perNode}
+use Rattle.walks.specs.Shapes.{shapeOf}
+use Rattle.trees.specs.inner.LevelPlans.{LevelsAre}
 use Rattle.trees.specs.declared.plan.LevelPlan.{LevelPlan}
 use Rattle.trees.specs.declared.build.BuildRefusal.the-variants as why
 use Rattle.trees.specs.declared.build.Built.{Built}
 use Rattle.trees.specs.declared.build.Built.the-variants.{Done, Refused}
 use Rattle.trees.specs.Build.{planOf, build, output}
-use Rattle.trees.specs.BuildCall.{layoutOf, orderNumber, ordered, builtBytes, buildOutcome, checkList, roomOutcome, planThenRoom}
+use Rattle.trees.specs.BuildCall.{layoutOf, orderNumber, ordered, builtBytes, buildOutcome}
+use Rattle.trees.specs.inner.BuildSteps.{checkList, roomOutcome, planThenRoom}
 use Rattle.trees.specs.BuildAnswer.{Builds}
-use Rattle.trees.specs.BuildNeeds.{Keyed, Given, Tree, PlanGiven}
+use Rattle.trees.specs.inner.BuildNeeds.{Keyed, Given, Tree, PlanGiven}
 use Rattle.trees.proofs.KeyLaws.{accepted-good}
 use Rattle.trees.proofs.PlanLaws.{few-most, few-taken, few-inside, few-all}
 use Rattle.trees.proofs.Stored.{output-length, build-made}

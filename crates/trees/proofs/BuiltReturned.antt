@@ -17,12 +17,12 @@ use Rattle.blocks.specs.declared.kind.TreeKind.{TreeKind}
 use Rattle.blocks.specs.Geometry.{geometryOk, Fits}
 use Rattle.blocks.specs.Tree.{hasTree, recordLen}
 use Rattle.trees.specs.Plan.{sum, levelsOf}
-use Rattle.trees.specs.Walk.{Shape, perNode, Trace, finished, spent, failed, met, visitOf, run, fit, visits, records, ending, byLevel, lookIn}
-use Rattle.trees.specs.WalkCall.{Lent, reportOf, ifFinished, walkIn, report, blocksAfter, recordsAfter}
-use Rattle.trees.specs.WalkState.{zeros}
+use Rattle.walks.specs.Walk.{Shape, perNode, Trace, finished, spent, failed, met, visitOf, run, fit, visits, records, ending, byLevel, lookIn}
+use Rattle.walks.specs.WalkCall.{Lent, reportOf, ifFinished, walkIn, report, blocksAfter, recordsAfter}
+use Rattle.walks.specs.Memory.{zeros}
 use Rattle.trees.specs.BlockLayout.{Sound}
 use Rattle.trees.specs.Build.{planOf, build, rootOf, AreNumbers, Holds, Places, stored}
-use Rattle.trees.specs.Shapes.{shapeOf}
+use Rattle.walks.specs.Shapes.{shapeOf}
 use Rattle.trees.specs.BuildCall.{layoutOf, buildQuestions, builtBytes, buildOutcome}
 use Rattle.trees.specs.RoundTrip.{levelsFor, LongEnough, walkBack, Returned}
 use Rattle.trees.proofs.TreeKinds.{sound}

@@ -9,10 +9,10 @@ use lib.ListN.{length, take, drop, getD, take-append-drop, length-drop}
 use lib.Seq.{take-add, take-all, length-take-le}
 use Rattle.trees.specs.Plan.{sum, shares}
 use Rattle.trees.specs.BlockLayout.{Layout}
-use Rattle.trees.specs.Walk.{Visit, visitOf, Look, good, atLevel, byLevel}
+use Rattle.walks.specs.Walk.{Visit, visitOf, Look, good, atLevel, byLevel}
 use Rattle.trees.specs.Build.{Child, leafParts, childrenOf}
 use Rattle.trees.proofs.InStep.{flat, Along}
-use Rattle.trees.proofs.Steps.{Step, stepOf, visitsIn, recordsIn, levelIn, level-this, level-other, Walked, walked-none, walked-block}
+use Rattle.walks.proofs.Steps.{Step, stepOf, visitsIn, recordsIn, levelIn, level-this, level-other, Walked, walked-none, walked-block}
 use Rattle.trees.proofs.Sharing.{Shaped, shares-length, shares-sum}
 use Rattle.trees.proofs.LevelWalk.{numbersOf, numbers-length, numbers-of-children, Rooted, Level, Whole, AboveSeen, whole}
 

@@ -14,11 +14,11 @@ use Rattle.blocks.specs.declared.geometry.Geometry.{Geometry}
 use Rattle.blocks.specs.declared.kind.TreeKind.{TreeKind}
 use Rattle.blocks.specs.Tree.{headerLen, recordLen}
 use Rattle.trees.specs.Plan.{sum, shareOf, sharesFrom, shares}
-use Rattle.trees.specs.Walk.{perLeaf}
+use Rattle.walks.specs.Walk.{perLeaf}
 use Rattle.trees.specs.BlockLayout.{Layout, Sized}
 use Rattle.trees.specs.Build.{Block, output, leafPart, leafParts, blocksOf, blockBytes}
 use Rattle.trees.specs.BuildCall.{layoutOf}
-use Rattle.trees.specs.BuildNeeds.{Leaves}
+use Rattle.trees.specs.inner.BuildNeeds.{Leaves}
 use Rattle.trees.proofs.Sharing.{share-most, shares-sum}
 use Rattle.trees.proofs.BlockBytes.{block-length, leaf-roomy}
 use Rattle.trees.proofs.TreeKinds.{sized, count-small}

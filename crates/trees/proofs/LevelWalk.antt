@@ -9,10 +9,10 @@ use lib.ListN.{length, take, drop, getD, length-append, take-append-drop, length
 use lib.Seq.{take-add, take-all, length-take-le, getD-append-add}
 use Rattle.trees.specs.Plan.{sum, shares}
 use Rattle.trees.specs.BlockLayout.{Layout}
-use Rattle.trees.specs.Walk.{Visit, visitOf, Look, good, atLevel, byLevel}
+use Rattle.walks.specs.Walk.{Visit, visitOf, Look, good, atLevel, byLevel}
 use Rattle.trees.specs.Build.{Child, Part, nodeParts, childrenOf}
 use Rattle.trees.proofs.InStep.{flat, flat-append, none-both, Along, along-take, along-drop, along-length}
-use Rattle.trees.proofs.Steps.{Step, stepOf, visitsIn, recordsIn, records-append, levelIn, level-append, level-this, level-other, by-level-same, Walked, walked-none, walked-append, walked-block}
+use Rattle.walks.proofs.Steps.{Step, stepOf, visitsIn, recordsIn, records-append, levelIn, level-append, level-this, level-other, by-level-same, Walked, walked-none, walked-append, walked-block}
 use Rattle.trees.proofs.Sharing.{Shaped, shares-length, shares-sum}
 
 -- the visits to children of a level, and their numbers

@@ -1,7 +1,6 @@
 pub mod PlanLaws
 pub mod InStep
 pub mod Sharing
-pub mod Steps
 pub mod LevelWalk
 pub mod LeafWalk
 pub mod BlockBytes
@@ -9,10 +8,6 @@ pub mod WalkedBack
 pub mod Stored
 pub mod Spans
 pub mod KeyLaws
-pub mod LevelLaws
-pub mod StackLaws
-pub mod WalkLaws
-pub mod RunLaws
 pub mod TreeKinds
 pub mod BuiltReturned
 pub mod Writing
@@ -21,15 +16,6 @@ pub mod Going
 pub mod NodeWriting
 pub mod NodesWriting
 pub mod TreeWriting
-pub mod LookLaws
-pub mod VisitLaws
-pub mod DescendLaws
-pub mod CallLaws
-pub mod PlanRows
-pub mod ForestLaws
-pub mod WalkMeaning
 pub mod BuildLaws
-pub mod WalkReasons
-pub mod FinishedWalks
 pub mod HighestKeys
 pub mod SmallTree

@@ -20,7 +20,7 @@ use Rattle.trees.specs.Plan.{firstOf}
 use Rattle.trees.specs.Build.{Child, keysOf, pointersOf}
 use Rattle.trees.specs.Keys.{rmapKeys, refcountKeys, firstStart, recordsBetween}
 use Rattle.trees.specs.BuildCall.{keysUnder}
-use Rattle.trees.specs.BuildNeeds.{Under, Planned, Children, pointerBytes, spanChildren, levelChildren}
+use Rattle.trees.specs.inner.BuildNeeds.{Under, Planned, Children, pointerBytes, spanChildren, levelChildren}
 use Rattle.trees.proofs.TreeKinds.{keys-long}
 use Rattle.trees.proofs.Going.{first-ends}
 use Rattle.trees.proofs.KeyLaws.{records-part, between-next}

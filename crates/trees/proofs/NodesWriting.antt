@@ -10,20 +10,21 @@ use borrow.Rule.Slice.PartMut.{putMid}
 use lib.ListN.{length, take, drop, getD, replicate, length-drop, drop-of-length-le}
 use lib.Seq.{drop-drop, drop-cons, length-take-le}
 use Rattle.codec.specs.Bytes.{withBytes}
+use Rattle.blocks.specs.Geometry.{nullAgBlock}
 use Rattle.blocks.specs.declared.geometry.Geometry.{Geometry}
 use Rattle.blocks.specs.declared.kind.TreeKind.{TreeKind}
 use Rattle.blocks.specs.Tree.{headerLen, recordLen, keysLen, entryLen}
 use Rattle.blocks.specs.Stamp.{stamped}
 use Rattle.blocks.proofs.Laws.{blocksize-within}
 use Rattle.trees.specs.Plan.{sum, shareOf, sharesFrom, firstOf}
-use Rattle.trees.specs.Walk.{perNode}
+use Rattle.walks.specs.Walk.{perNode}
 use Rattle.trees.specs.BlockLayout.{Layout, Sized}
 use Rattle.trees.specs.Build.{Child, Block, output, keysOf, pointersOf, nodePart, nodeParts, blocksOf, blockBytes}
-use Rattle.trees.specs.BuildCall.{keysUnder, noSibling, layoutOf}
-use Rattle.trees.specs.BuildNeeds.{levelChildren, pointerBytes, Node, Nodes, nodesAbove}
+use Rattle.trees.specs.BuildCall.{keysUnder, layoutOf}
+use Rattle.trees.specs.inner.BuildNeeds.{levelChildren, pointerBytes, Node, Nodes, nodesAbove}
 use Rattle.trees.proofs.Sharing.{share-most, shares-sum}
 use Rattle.trees.proofs.BlockBytes.{block-length, node-roomy}
-use Rattle.trees.proofs.TreeKinds.{sized, count-small, header-is, keys-long}
+use Rattle.trees.proofs.TreeKinds.{sized, count-small, header-within, keys-long}
 use Rattle.trees.proofs.Writing.{Written, written-none, written-more, written-all, part-put, output-one, node-fresh}
 use Rattle.trees.proofs.LeafWriting.{share-next}
 use Rattle.trees.proofs.NodeWriting.{pointer-length, keys-total, span-count, span-take, span-drop, span-pointers}
@@ -43,7 +44,7 @@ module _ (g : Geometry) (kind : TreeKind) (list levels : List ℕ) (level child 
     pub pointers-in : head + (g .blocksize - head) / entry * keys + length below * 4 ≤ g .blocksize
     pub small : length below < 2 ^ 16
     pub made : (number : ℕ)
-        → stamped g kind number (level + 1) (length below) noSibling noSibling
+        → stamped g kind number (level + 1) (length below) nullAgBlock nullAgBlock
         (withBytes (withBytes (replicate (length b) 0) head (keysOf (keysUnder kind) cs)) (head + (g .blocksize - head) / entry * keys) (pointerBytes below))
         ≡ blockBytes (layoutOf g kind) (level + 1) number (nodePart (layoutOf g kind) cs)
 
@@ -55,7 +56,7 @@ module _ (g : Geometry) (kind : TreeKind) (list levels : List ℕ) (level child 
       let header : ℕ = headerLen (g .version) in
       let per : ℕ = perNode (t .shape) in
       let f : ℕ → ℕ = firstOf (length list / recordLen kind) levels level in
-      let h56 : header ≡ 56 = header-is g kind (q .given .ok) (q .given .tree) in
+      let h56 : header ≤ 56 = header-within g kind (q .given .ok) (q .given .tree) in
       let big : 512 ≤ size = blocksize-within g (q .given .ok) .0 in
       let room : (size - head) / entry * keys ≡ per * keysLen kind =
       ap₂ (λ (x y : ℕ). (size - x) / y * keys) he ee ∙ ap (λ (x : ℕ). per * x) ke in
@@ -74,7 +75,7 @@ module _ (g : Geometry) (kind : TreeKind) (list levels : List ℕ) (level child 
         pointers-in = omega (arith, q .most);
         small = count-small g kind (q .given .ok) (q .given .tree) 1 (length below) (q .most);
         made = λ number.
-            ap₂ (λ (x : ℕ) (y : List ℕ). stamped g kind number (level + 1) x noSibling noSibling y)
+            ap₂ (λ (x : ℕ) (y : List ℕ). stamped g kind number (level + 1) x nullAgBlock nullAgBlock y)
             (sym (span-count (recordLen kind) list f child below))
             (ap₂ (λ (x y : ℕ). withBytes (withBytes (replicate x 0) y (keysOf (keysUnder kind) cs)) (y + (size - head) / entry * keys) (pointerBytes below)) (q .long) he
             ∙ ap₂ (λ (x : ℕ) (y : List ℕ). withBytes (withBytes (replicate size 0) header (keysOf (keysUnder kind) cs)) (header + x) y) room (sym points)

@@ -13,9 +13,11 @@ use lib.Dec.{leb}
 use borrow.Author.Tests.{le-leb, lt-leb, leb-true}
 use Rattle.codec.specs.Question.{done, ask, answer}
 use Rattle.trees.specs.declared.plan.LevelPlan.{LevelPlan}
-use Rattle.trees.specs.declared.plan.PlanAnswer.the-variants.{Levels, TooManyLevels}
+use Rattle.trees.specs.declared.plan.PlanAnswer.the-variants.{Levels, Refused}
+use Rattle.trees.specs.declared.plan.PlanRefusal.the-variants as why
 use Rattle.trees.specs.Plan.{ceil, leaves, above, levelsOf, sum}
-use Rattle.trees.specs.PlanAnswer.{placesOf, LevelsAre, PlanIs}
+use Rattle.trees.specs.PlanAnswer.{placesOf, PlanIs}
+use Rattle.trees.specs.inner.LevelPlans.{LevelsAre}
 
 pub ceil-zero : (b : ℕ) → 0 < b → ceil 0 b ≡ 0
 unfolding ceil
@@ -196,7 +198,7 @@ module _ (ls : List ℕ) (p : LevelPlan) (is : LevelsAre ls p) where
     pub plan-few : PlanIs (answer (ask 16 (leb (length ls) 9) ∷ []) (done ls)) (record { answer = Levels (p .levels); blocks = p .blocks; total = p .total })
     plan-few = rw has-few (record { outcome = ap done few-taken; levels = few-levels; few = omega (arith, few-levels, few-most); places = few-places; all = few-all })
 
-  pub plan-many : p .few ≡ false → PlanIs (answer (ask 16 (leb (length ls) 9) ∷ []) (done ls)) (record { answer = TooManyLevels; blocks = p .blocks; total = p .total })
+  pub plan-many : p .few ≡ false → PlanIs (answer (ask 16 (leb (length ls) 9) ∷ []) (done ls)) (record { answer = Refused why.Levels; blocks = p .blocks; total = p .total })
   plan-many f =
       let t : leb (length ls) 9 ≡ false = sym (is .few) ∙ f in
       rw t (record { outcome = refl; levels = refl; few = omega arith; places = is .places ∙ rw t refl; all = is .all ∙ rw t refl })

@@ -20,16 +20,16 @@ use Rattle.blocks.specs.Geometry as geometry
 use Rattle.blocks.specs.Geometry.{Fits}
 use Rattle.blocks.specs.Tree as tree
 use Rattle.trees.specs.Plan as plan
-use Rattle.trees.specs.Walk.{Trace, visitOf, lookIn}
-use Rattle.trees.specs.WalkCall.{Report, Lent, walkOf, report}
+use Rattle.walks.specs.Walk.{Trace, visitOf, lookIn}
+use Rattle.walks.specs.WalkCall.{Report, Lent, walkOf, report}
 use Rattle.trees.specs.Build.{AreNumbers, Places, stored}
 use Rattle.trees.specs.BuildCall.{builtBytes, buildOutcome}
-use Rattle.trees.specs.Shapes.{shapeOf}
+use Rattle.walks.specs.Shapes.{shapeOf}
 use Rattle.trees.specs.RoundTrip.{LongEnough}
-use Rattle.trees.specs.Forest.{ReadTree}
+use Rattle.walks.specs.Forest.{ReadTree}
 use Rattle.trees.proofs.BlockBytes.{zero-bytes}
 use Rattle.trees.proofs.BuiltReturned.{stored-returned}
-use Rattle.trees.proofs.FinishedWalks.{every-walk}
+use Rattle.walks.proofs.FinishedWalks.{every-walk}
 
 abbrev pub small : Geometry
 small = record { version = 5; blocksize = 512; agblocks = 3; agno = 0; «meta_uuid» = replicate 16 0 }

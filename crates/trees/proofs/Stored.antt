@@ -13,7 +13,7 @@ use Rattle.codec.specs.Bytes.{bytesAt, withBytes}
 use Rattle.codec.proofs.Parts.{length-withBytes, bytesAt-same, bytesAt-before, bytesAt-after}
 use Rattle.trees.specs.Plan.{leaves, above, levelsOf, sum, shares}
 use Rattle.trees.specs.BlockLayout.{Layout, Sized}
-use Rattle.trees.specs.Walk.{perLeaf, perNode, blockIn}
+use Rattle.walks.specs.Walk.{perLeaf, perNode, blockIn}
 use Rattle.trees.specs.Build.{Child, Part, Block, leafPart, nodePart, leafParts, nodeParts, blocksOf, childrenOf, buildAbove, buildPlan, planOf, build, output, Holds, stored, Other, Places}
 use Rattle.trees.proofs.Sharing.{split, Shaped, Most, shares-most, shares-length, leaves-some, leaves-room, above-shaped}
 use Rattle.trees.proofs.LevelWalk.{next-length, numbers-length, numbers-of-children}

@@ -17,11 +17,11 @@ use Rattle.blocks.specs.declared.geometry.Geometry.{Geometry}
 use Rattle.blocks.specs.declared.kind.TreeKind.{TreeKind}
 use Rattle.blocks.specs.Tree.{recordLen}
 use Rattle.trees.specs.Plan.{ceil, leaves, above, levelsOf, sum, sharesFrom, shares, startOf, firstOf}
-use Rattle.trees.specs.Walk.{perLeaf, perNode}
+use Rattle.walks.specs.Walk.{perLeaf, perNode}
 use Rattle.trees.specs.BlockLayout.{Layout, Sized}
 use Rattle.trees.specs.Build.{Child, Block, output, leafParts, nodeParts, blocksOf, childrenOf, buildAbove, buildPlan, build}
 use Rattle.trees.specs.BuildCall.{layoutOf, builtBytes}
-use Rattle.trees.specs.BuildNeeds.{Planned, levelChildren, spanChildren, Leaves, Nodes, nodesAbove, levelsAbove, Tree}
+use Rattle.trees.specs.inner.BuildNeeds.{Planned, levelChildren, spanChildren, Leaves, Nodes, nodesAbove, levelsAbove, Tree}
 use Rattle.trees.proofs.Sharing.{split, tests, ceil-some, Shaped, shares-most, shares-sum, shares-length, leaves-some, leaves-room, above-shaped}
 use Rattle.trees.proofs.PlanLaws.{ceil-zero}
 use Rattle.trees.proofs.LevelWalk.{numbersOf, numbers-of-children, parts-length}

@@ -11,9 +11,9 @@ use borrow.Author.Tests.{lt-ltb, le-leb}
 use Rattle.codec.specs.Bytes.{IsBytes}
 use Rattle.trees.specs.Plan.{leaves, above, levelsOf, sum, shares}
 use Rattle.trees.specs.BlockLayout.{Layout, Sound}
-use Rattle.trees.specs.Walk.{perLeaf, perNode, Visit, visitOf, Look, Trace, finished, met, run, fit, visits, records, ending, byLevel, lookIn}
+use Rattle.walks.specs.Walk.{perLeaf, perNode, Visit, visitOf, Look, Trace, finished, met, run, fit, visits, records, ending, byLevel, lookIn}
 use Rattle.trees.specs.Build.{Child, Part, blocksOf, childrenOf, leafParts, buildAbove, buildPlan, planOf, build, rootOf, AreNumbers}
-use Rattle.trees.proofs.Steps.{Step, meet, visitsIn, recordsIn, meet-records, meet-visits, meet-ending, visits-length, Walked}
+use Rattle.walks.proofs.Steps.{Step, meet, visitsIn, recordsIn, meet-records, meet-visits, meet-ending, visits-length, Walked}
 use Rattle.trees.proofs.Sharing.{Shaped, shares-most, shares-sum, shares-length, leaves-some, leaves-room, above-shaped}
 use Rattle.trees.proofs.LevelWalk.{numbersOf, numbers-length, numbers-of-children}
 use Rattle.trees.proofs.LeafWalk.{Tree, tree, leaf-parts-length}

@@ -6,7 +6,7 @@ use mathlib.Core.List.{List}
 use lib.ListN.{length, drop}
 use Rattle.codec.specs.Bytes.{IsBytes}
 use Rattle.codec.specs.Question.{done}
-use Rattle.trees.specs.Walk.{Shape, perLeaf, perNode}
+use Rattle.walks.specs.Walk.{Shape, perLeaf, perNode}
 
 pub record Layout : Type 0 where
   pub shape : Shape

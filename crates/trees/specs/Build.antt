@@ -6,7 +6,7 @@ use mathlib.Core.List.{List, [], _∷_, _++_}
 use lib.ListN.{length, take, drop, getD, replicate}
 use Rattle.codec.specs.Bytes.{withBytes, beBytes}
 use Rattle.trees.specs.Plan.{levelsOf, shares}
-use Rattle.trees.specs.Walk.{Shape, perLeaf, perNode, blockIn}
+use Rattle.walks.specs.Walk.{Shape, perLeaf, perNode, blockIn}
 use Rattle.trees.specs.BlockLayout.{Layout}
 
 -- a block of the tree as the level above sees it: its number, and the bytes of the records under it

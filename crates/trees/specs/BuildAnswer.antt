@@ -4,7 +4,7 @@ use Prim.Native.Nat.{ℕ}
 use mathlib.Core.Path.{_≡_}
 use mathlib.Core.List.{List}
 use lib.ListN.{length}
-use Rattle.codec.specs.Question.{none, Outcome, done, refused, mapOutcome}
+use Rattle.codec.specs.Question.{Values, none, Outcome, done, refused, mapOutcome}
 use Rattle.codec.specs.ListRefusal.{listNumber}
 use Rattle.trees.specs.declared.build.BuildRefusal.{BuildRefusal}
 use Rattle.trees.specs.declared.build.BuildRefusal.the-variants as why
@@ -20,10 +20,14 @@ buildNumber why.Levels = 16
 buildNumber why.Blocks = 17
 buildNumber why.Output = 18
 
+-- no question of build has values
+abbrev pub buildValues : BuildRefusal → Values
+buildValues r = none
+
 -- how many bytes were written, or the refusal
 abbrev pub builtOutcome : Built → Outcome ℕ
 builtOutcome (Done n) = done n
-builtOutcome (Refused r) = refused (buildNumber r) none
+builtOutcome (Refused r) = refused (buildNumber r) (buildValues r)
 
 -- an answer that says what a call comes to, and the output before and after it
 pub record Builds (o : Outcome (List ℕ)) (r : Built) (out out′ : List ℕ) : Type 0 where

@@ -14,11 +14,11 @@ use Rattle.codec.specs.Refcounts as refcount
 use Rattle.blocks.specs.declared.geometry.Geometry.{Geometry}
 use Rattle.blocks.specs.declared.kind.TreeKind.{TreeKind}
 use Rattle.blocks.specs.declared.kind.TreeKind.the-variants.{Rmap, Refcount}
-use Rattle.blocks.specs.Geometry.{geometryOk}
+use Rattle.blocks.specs.Geometry.{geometryOk, nullAgBlock}
 use Rattle.blocks.specs.Tree.{hasTree, recordLen}
 use Rattle.blocks.specs.Stamp.{stamped}
 use Rattle.trees.specs.Plan.{sum}
-use Rattle.trees.specs.Shapes.{shapeOf}
+use Rattle.walks.specs.Shapes.{shapeOf}
 use Rattle.trees.specs.BlockLayout.{Layout}
 use Rattle.trees.specs.Build.{planOf, build, output}
 use Rattle.trees.specs.Keys.{rmapKeys, refcountKeys}
@@ -30,13 +30,9 @@ unfoldable pub keysUnder : TreeKind → List ℕ → List ℕ
 keysUnder Rmap b = rmapKeys (recordsOf rmaps b)
 keysUnder Refcount b = refcountKeys (recordsOf refcounts b)
 
--- a sibling of all ones is none
-abbrev pub noSibling : ℕ
-noSibling = 0xFFFF_FFFF
-
 abbrev pub layoutOf : Geometry → TreeKind → Layout
 layoutOf g kind =
-    record { shape = shapeOf g kind; keys = keysUnder kind; stamp = λ block level n b. stamped g kind block level n noSibling noSibling b }
+    record { shape = shapeOf g kind; keys = keysUnder kind; stamp = λ block level n b. stamped g kind block level n nullAgBlock nullAgBlock b }
 
 -- ---- the questions
 
@@ -77,20 +73,3 @@ buildOutcome g kind list numbers room =
 abbrev pub outAfter : Outcome (List ℕ) → List ℕ → List ℕ
 outAfter (done bytes) out = withBytes out 0 bytes
 outAfter (refused n v) out = out
-
--- ---- the outcome from a question on, for the functions that ask them
-
--- 19, and 20 or 21
-abbrev pub checkList : TreeKind → List ℕ → Outcome ℕ
-checkList Rmap l = rmap.checkOrder l
-checkList Refcount l = refcount.checkOrder l
-
--- 17 and 18
-unfoldable pub roomOutcome : Geometry → TreeKind → List ℕ → List ℕ → ℕ → Outcome (List ℕ)
-roomOutcome g kind list numbers room =
-    answer (roomQuestions g (planOf (shapeOf g kind) list) (length numbers) room) (done (builtBytes g kind list numbers))
-
--- 16 to 18
-unfoldable pub planThenRoom : Geometry → TreeKind → List ℕ → List ℕ → ℕ → Outcome (List ℕ)
-planThenRoom g kind list numbers room =
-    answer (ask 16 (leb (length (planOf (shapeOf g kind) list)) 9) ∷ []) (roomOutcome g kind list numbers room)

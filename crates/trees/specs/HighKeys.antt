@@ -1,10 +1,10 @@
 -- What the high keys of a child mean. The statements are `EveryHighKey` and `EveryHighest`; proofs/HighestKeys.antt proves them.
 -- Assumes nothing.
-use Prim.Native.Nat.{_+_, _/_, _%_, _^_}
+use Prim.Native.Nat.{_+_, _/_, _%_}
 use mathlib.Core.Path.{_≡_}
 use mathlib.Core.Bool.{true, false}
 use mathlib.Core.List.{List, [], _∷_, _++_}
-use Rattle.codec.specs.Rmaps.{end, fileOffset, flags, exempt, good}
+use Rattle.codec.specs.Rmaps.{offLimit, end, fileOffset, flags, exempt, good}
 use Rattle.codec.specs.declared.rmap.Rmap.{Rmap}
 use Rattle.trees.specs.declared.keys.RmapKey.{RmapKey}
 use Rattle.trees.specs.Keys.{highKey, keyBelow, highest}
@@ -13,8 +13,8 @@ use Rattle.trees.specs.Keys.{highKey, keyBelow, highest}
 pub record LastBlock (r : Rmap) (k : RmapKey) : Type 0 where
   pub start : k .start + 1 ≡ end r
   pub owner : k .owner ≡ r .owner
-  pub flags : k .offset / 2 ^ 54 ≡ flags r
-  pub file : exempt r ≡ false → k .offset % 2 ^ 54 + 1 ≡ fileOffset r + r .blockcount
+  pub flags : k .offset / offLimit ≡ flags r
+  pub file : exempt r ≡ false → k .offset % offLimit + 1 ≡ fileOffset r + r .blockcount
   pub no-file : exempt r ≡ true → k .offset ≡ r .offset
 
 -- "A high key adds count − 1 to the start, and to the file offset unless the owner is reserved or bit 62 is set": so it is the key of the

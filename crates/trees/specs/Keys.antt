@@ -1,6 +1,6 @@
 -- The keys of a child: what a node says of the records under it.
 -- Assumes nothing.
-use Prim.Native.Nat.{ℕ, _+_, _-_, _*_, _/_, _%_, _^_, _<_}
+use Prim.Native.Nat.{ℕ, _+_, _-_, _*_, _/_, _%_, _<_}
 use mathlib.Core.Path.{_≡_}
 use mathlib.Core.Bool.{Bool, true, cond}
 use mathlib.Core.List.{List, [], _∷_, _++_}
@@ -8,7 +8,7 @@ use lib.Dec.{ltb, eqb}
 use lib.ListN.{length, take, drop}
 use Rattle.codec.specs.Bytes.{bytesAt, beBytes}
 use Rattle.codec.specs.Records.{Kind, fieldBytes, recordsOf, rmaps}
-use Rattle.codec.specs.Rmaps.{exempt, good}
+use Rattle.codec.specs.Rmaps.{offLimit, exempt, good}
 use Rattle.codec.specs.declared.rmap.Rmap.{Rmap}
 use Rattle.codec.specs.declared.refcount.Refcount.{Refcount}
 use Rattle.trees.specs.declared.keys.RmapKey.{RmapKey}
@@ -42,7 +42,7 @@ highKey r =
 unfoldable pub keyBelow : RmapKey → RmapKey → Bool
 keyBelow j k =
     cond (eqb (j .start) (k .start))
-    (cond (eqb (j .owner) (k .owner)) (ltb (j .offset % 2 ^ 54) (k .offset % 2 ^ 54)) (ltb (j .owner) (k .owner)))
+    (cond (eqb (j .owner) (k .owner)) (ltb (j .offset % offLimit) (k .offset % offLimit)) (ltb (j .owner) (k .owner)))
     (ltb (j .start) (k .start))
 
 -- the greater of two keys, the later of equals
@@ -72,7 +72,7 @@ rmapKeys rs = keyBytes (lowest rs) ++ keyBytes (highest rs)
 
 -- each record of a list of bytes is good by 20
 abbrev pub AllGood : List ℕ → Type 0
-AllGood l = (i : ℕ) → i < length l / 24 → good (rmaps .decode (bytesAt l (i * 24) 24)) ≡ true
+AllGood l = (i : ℕ) → i < length l / rmaps .size → good (rmaps .decode (bytesAt l (i * rmaps .size) (rmaps .size))) ≡ true
 
 -- ---- the shared counts: the first record's start
 

@@ -9,10 +9,10 @@ use Rattle.codec.specs.Question.{Outcome, done}
 use Rattle.blocks.specs.declared.geometry.Geometry.{Geometry}
 use Rattle.blocks.specs.declared.kind.TreeKind.{TreeKind}
 use Rattle.blocks.specs.Tree.{recordLen}
-use Rattle.trees.specs.Walk.{Trace, perNode}
-use Rattle.trees.specs.WalkCall.{Lent, walkOf, report, blocksAfter, recordsAfter}
+use Rattle.walks.specs.Walk.{Trace, perNode}
+use Rattle.walks.specs.WalkCall.{Lent, walkOf, report, blocksAfter, recordsAfter}
 use Rattle.trees.specs.Build.{planOf, rootOf}
-use Rattle.trees.specs.Shapes.{shapeOf}
+use Rattle.walks.specs.Shapes.{shapeOf}
 
 -- the planned levels of a list
 abbrev pub levelsFor : Geometry → TreeKind → List ℕ → ℕ

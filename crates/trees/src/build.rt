@@ -8,17 +8,20 @@ ghost use Rattle.blocks.specs.Geometry.{geometryOk};
 ghost use Rattle.blocks.specs.Tree.{headerLen, hasTree, recordLen, keysLen};
 ghost use Rattle.trees.specs.Plan.{shares, startOf, firstOf};
 ghost use Rattle.trees.specs.Build.{keysOf, leafPart, leafParts, nodePart, blockBytes, blocksOf, output};
-ghost use Rattle.trees.specs.BuildCall.{keysUnder, layoutOf, builtBytes, checkList, roomOutcome, planThenRoom, buildOutcome};
-ghost use Rattle.trees.specs.BuildAnswer.{Builds};
+ghost use Rattle.trees.specs.BuildCall.{keysUnder, layoutOf, builtBytes, buildOutcome};
+ghost use Rattle.trees.specs.inner.BuildSteps.{checkList, roomOutcome, planThenRoom};
+ghost use Rattle.trees.specs.BuildAnswer.{buildNumber, buildValues, Builds};
 ghost use Rattle.codec.specs.ListRefusal.{listOutcome};
-ghost use Rattle.trees.specs.BuildNeeds.{Given, Under, Planned, pointerBytes, levelChildren, Leaves, Children, Node, Nodes, nodesAbove, levelsAbove, Tree, PlanGiven};
+ghost use Rattle.codec.specs.Told.{Tells};
+ghost use Rattle.trees.specs.inner.BuildNeeds.{Given, Under, Planned, Leaves, Children, Node, Nodes, Tree, PlanGiven};
+ghost use Rattle.trees.specs.inner.BuildNeeds.{pointerBytes, levelChildren, nodesAbove, levelsAbove};
 use crate::keys::put_rmap_keys;
-use crate::memory::clear8;
 use crate::plan::plan_levels;
 use crate::plan::share;
 use blocks::geometry::AgBlock;
 use blocks::geometry::Geometry;
 use blocks::geometry::NULL_AGBLOCK;
+use blocks::kind::PTR_LEN;
 use blocks::kind::TreeKind;
 use blocks::kind::header_len;
 use blocks::stamp::stamp;
@@ -27,6 +30,9 @@ use codec::check::ListRefusal;
 use codec::copy::copy;
 use codec::endian::be32;
 use codec::endian::put_be32;
+use codec::refcount::REFCOUNT_LEN;
+use codec::refusal::Told;
+use walks::memory::zero8;
 
 // Why build is refused. The number of each case (docs/QUESTIONS.md) is `buildNumber` of specs/BuildAnswer.antt.
 pub enum BuildRefusal {
@@ -44,6 +50,22 @@ pub enum BuildRefusal {
     Output,
 }
 
+impl BuildRefusal {
+    // No question of build has values.
+    pub fn told(self) -> Told
+        ensures { λ t. ⌜ Tells t (buildNumber self) (buildValues self) ⌝ }
+    {
+        match self {
+            BuildRefusal::BadGeometry => Told::plain(1),
+            BuildRefusal::NoTree => Told::plain(3),
+            BuildRefusal::List(refusal) => refusal.told(),
+            BuildRefusal::Levels => Told::plain(16),
+            BuildRefusal::Blocks => Told::plain(17),
+            BuildRefusal::Output => Told::plain(18),
+        }
+    }
+}
+
 pub enum Built {
     // how many bytes were written
     Done(usize),
@@ -57,7 +79,7 @@ fn write_leaf(g: Geometry, kind: TreeKind, number: u32, count: u16, records: &[u
     ensures { λ _. ⌜ now (b .exit) ≡ blockBytes (layoutOf g kind) 0 number (leafPart count (now (records .entry))) ⌝ }
 {
     let head = header_len(g.version);
-    clear8(b);
+    zero8(b);
     copy(records, b, head);
     stamp(
         g,
@@ -142,7 +164,7 @@ fn put_keys(kind: TreeKind, list: &[u8], from: usize, to: usize, b: &mut [u8], a
             put_rmap_keys(list, from, to, b, at);
         }
         TreeKind::Refcount => {
-            let key = be32(list, from * 12);
+            let key = be32(list, from * REFCOUNT_LEN);
             put_be32(b, at, key);
         }
     }
@@ -155,7 +177,7 @@ fn put_pointers(blocks: &[u32], b: &mut [u8], at: usize)
 {
     let mut i = 0;
     while i < blocks.len() {
-        put_be32(b, at + i * 4, blocks[i]);
+        put_be32(b, at + i * PTR_LEN, blocks[i]);
         i += 1;
     }
 }
@@ -208,7 +230,7 @@ fn write_node(
     let most = (size - head) / kind.entry_len();
     let keys = kind.keys_len();
     let count = below.len();
-    clear8(b);
+    zero8(b);
     put_all_keys(kind, list, levels, level, child, below, b, head);
     put_pointers(below, b, head + most * keys);
     stamp(

@@ -7,10 +7,16 @@ ghost use lib.ListN.{length};
 ghost use Rattle.codec.specs.Bytes.{withBytes};
 ghost use Rattle.codec.specs.Records.{rmaps};
 ghost use Rattle.codec.specs.Rmaps.{good};
+ghost use Rattle.blocks.specs.Tree.{rmapKeyLen};
 ghost use Rattle.trees.specs.Keys.{keyBytes, highKey, keyBelow, greater, highest, rmapKeys, recordsBetween, AllGood};
+use blocks::kind::RMAP_KEY_LEN;
 use codec::endian::put_be32;
 use codec::endian::put_be64;
+use codec::rmap::OFF_LIMIT;
+use codec::rmap::RMAP_LEN;
 use codec::rmap::Rmap;
+use codec::rmap::decode;
+use codec::rmap::exempt;
 
 // A key: start, owner and the whole offset of a record.
 struct RmapKey {
@@ -18,9 +24,6 @@ struct RmapKey {
     owner: u64,
     offset: u64,
 }
-
-// One more than the largest file offset.
-const OFF_LIMIT: u64 = 0x40_0000_0000_0000;
 
 // The key of a record's last block (`EveryHighKey` of specs/HighKeys.antt).
 fn high_key(r: Rmap) -> RmapKey
@@ -30,7 +33,7 @@ fn high_key(r: Rmap) -> RmapKey
     let more = r.blockcount - 1;
     let start = r.startblock + more;
     let owner = r.owner;
-    if codec::rmap::exempt(r) {
+    if exempt(r) {
         return RmapKey {
             start: start,
             owner: owner,
@@ -66,20 +69,20 @@ fn greater_key(j: RmapKey, k: RmapKey) -> RmapKey
 
 // The greatest high key of the records from `from` to `to`.
 fn highest_key(list: &[u8], from: usize, to: usize) -> RmapKey
-    requires { ⌜ (from < to) × (to ≤ length (now list) / 24) × AllGood (now list) ⌝ }
+    requires { ⌜ (from < to) × (to ≤ length (now list) / rmaps .size) × AllGood (now list) ⌝ }
     ensures { λ r. ⌜ r ≡ highest (recordsBetween rmaps (now (list .entry)) from to) ⌝ }
 {
-    let mut k = high_key(codec::rmap::decode(list, from * 24));
+    let mut k = high_key(decode(list, from * RMAP_LEN));
     let mut i = from + 1;
     while i < to {
-        k = greater_key(k, high_key(codec::rmap::decode(list, i * 24)));
+        k = greater_key(k, high_key(decode(list, i * RMAP_LEN)));
         i += 1;
     }
     k
 }
 
 fn put_key(b: &mut [u8], at: usize, k: RmapKey)
-    requires { ⌜ at + 20 ≤ length (now b) ⌝ }
+    requires { ⌜ at + rmapKeyLen ≤ length (now b) ⌝ }
     ensures { λ _. ⌜ now (b .exit) ≡ withBytes (now (b .entry)) at (keyBytes k) ⌝ }
 {
     put_be32(b, at, k.start);
@@ -89,11 +92,11 @@ fn put_key(b: &mut [u8], at: usize, k: RmapKey)
 
 // The keys of a child with the records from `from` to `to` under it.
 pub(crate) fn put_rmap_keys(list: &[u8], from: usize, to: usize, b: &mut [u8], at: usize)
-    requires { ⌜ (from < to) × (to ≤ length (now list) / 24) × AllGood (now list) ⌝ }
-    requires { ⌜ at + 40 ≤ length (now b) ⌝ }
+    requires { ⌜ (from < to) × (to ≤ length (now list) / rmaps .size) × AllGood (now list) ⌝ }
+    requires { ⌜ at + (rmapKeyLen + rmapKeyLen) ≤ length (now b) ⌝ }
     ensures { λ _. ⌜ now (b .exit) ≡ withBytes (now (b .entry)) at (rmapKeys (recordsBetween rmaps (now (list .entry)) from to)) ⌝ }
 {
-    let r = codec::rmap::decode(list, from * 24);
+    let r = decode(list, from * RMAP_LEN);
     let low = RmapKey {
         start: r.startblock,
         owner: r.owner,
@@ -101,5 +104,5 @@ pub(crate) fn put_rmap_keys(list: &[u8], from: usize, to: usize, b: &mut [u8], a
     };
     let high = highest_key(list, from, to);
     put_key(b, at, low);
-    put_key(b, at + 20, high);
+    put_key(b, at + RMAP_KEY_LEN, high);
 }

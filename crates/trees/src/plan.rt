@@ -2,23 +2,43 @@
 ghost use mathlib.Core.Path.{_≡_};
 ghost use mathlib.Core.Bool.{true};
 ghost use Prim.Native.Nat.{_<_, _≤_};
+ghost use Rattle.codec.specs.Told.{Tells};
 ghost use Rattle.blocks.specs.Geometry.{geometryOk};
 ghost use Rattle.trees.specs.Plan.{ceil, levelsOf, shareOf};
-ghost use Rattle.trees.specs.Walk.{perLeaf, perNode};
-ghost use Rattle.trees.specs.Shapes.{shapeOf};
-ghost use Rattle.trees.specs.PlanAnswer.{planOutcome, LevelsAre, PlanIs};
+ghost use Rattle.walks.specs.Walk.{perLeaf, perNode};
+ghost use Rattle.walks.specs.Shapes.{shapeOf};
+ghost use Rattle.trees.specs.PlanAnswer.{planNumber, planValues, planOutcome, PlanIs};
+ghost use Rattle.trees.specs.inner.LevelPlans.{LevelsAre};
 use blocks::geometry::Geometry;
 use blocks::kind::TreeKind;
 use blocks::kind::block_capacity;
+use codec::refusal::Told;
 
-// What a plan comes to. The numbers (docs/QUESTIONS.md) are in `answerOutcome` of specs/PlanAnswer.antt.
-pub enum PlanAnswer {
-    // the number of levels
-    Levels(usize),
+// Why a plan is refused. The number of each case (docs/QUESTIONS.md) is `planNumber` of specs/PlanAnswer.antt.
+pub enum PlanRefusal {
     // the geometry is none: 1
     BadGeometry,
     // there would be more than 9 levels: 16
-    TooManyLevels,
+    Levels,
+}
+
+impl PlanRefusal {
+    // No question of a plan has values.
+    pub fn told(self) -> Told
+        ensures { λ t. ⌜ Tells t (planNumber self) (planValues self) ⌝ }
+    {
+        match self {
+            PlanRefusal::BadGeometry => Told::plain(1),
+            PlanRefusal::Levels => Told::plain(16),
+        }
+    }
+}
+
+// What a plan comes to.
+pub enum PlanAnswer {
+    // the number of levels
+    Levels(usize),
+    Refused(PlanRefusal),
 }
 
 // A plan: the blocks of each level, leaves first, and of all levels together. Places past the last level are 0, and so are all numbers of a
@@ -114,7 +134,7 @@ pub fn plan(g: Geometry, kind: TreeKind, records: u64) -> Planned
 {
     if !g.is_ok() {
         return Planned {
-            answer: PlanAnswer::BadGeometry,
+            answer: PlanAnswer::Refused(PlanRefusal::BadGeometry),
             blocks: [0u64; 9],
             total: 0,
         };
@@ -130,7 +150,7 @@ pub fn plan(g: Geometry, kind: TreeKind, records: u64) -> Planned
         };
     }
     Planned {
-        answer: PlanAnswer::TooManyLevels,
+        answer: PlanAnswer::Refused(PlanRefusal::Levels),
         blocks,
         total,
     }

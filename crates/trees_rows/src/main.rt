@@ -10,8 +10,7 @@ use codec::copy::copy;
 use codec::endian::put_be32;
 use codec::rmap::Rmap;
 use codec::rmap::encode;
-use show::lines::list_number;
-use show::lines::show_block_refusal;
+use show::lines::show_told;
 use show::lines::words;
 use show::places::all8;
 use show::places::all32;
@@ -19,14 +18,12 @@ use show::places::all64;
 use show::samples::damage;
 use show::samples::fresh;
 use show::samples::geometry;
-use trees::build::BuildRefusal;
 use trees::build::Built;
 use trees::build::build;
 use trees::plan::PlanAnswer;
 use trees::plan::plan;
-use trees::walk::WalkRefusal;
-use trees::walk::Walked;
-use trees::walk::walk;
+use walks::walk::Walked;
+use walks::walk::walk;
 
 // A name, and a number in decimal.
 fn number(name: &[u8], n: u64) {
@@ -61,8 +58,9 @@ fn plan_row(records: u64) {
             number(b" levels ", levels as u64);
             number(b" blocks ", total);
         }
-        PlanAnswer::BadGeometry => number(b" refused ", 1),
-        PlanAnswer::TooManyLevels => number(b" refused ", 16),
+        PlanAnswer::Refused(r) => {
+            show_told(r.told());
+        }
     }
     newline();
 }
@@ -150,17 +148,6 @@ fn plant(image: &mut [u8]) {
     place(&out, &at, image);
 }
 
-fn build_number(r: BuildRefusal) -> u64 {
-    match r {
-        BuildRefusal::BadGeometry => 1,
-        BuildRefusal::NoTree => 3,
-        BuildRefusal::List(l) => list_number(l),
-        BuildRefusal::Levels => 16,
-        BuildRefusal::Blocks => 17,
-        BuildRefusal::Output => 18,
-    }
-}
-
 // What became of the bytes from a place on.
 fn show_tail(out: &[u8], from: usize) {
     if out.len() < from {
@@ -176,7 +163,7 @@ fn show_built(answer: Built, out: &[u8]) {
             show_tail(out, n);
         }
         Built::Refused(r) => {
-            number(b" refused ", build_number(r));
+            show_told(r.told());
             show_tail(out, 0);
         }
     }
@@ -232,19 +219,6 @@ fn root() {
     let mut image = [0xEEu8; 10240];
     plant(&mut image);
     show_root(&image);
-}
-
-fn show_refusal(r: WalkRefusal) {
-    match r {
-        WalkRefusal::Levels => number(b" refused ", 11),
-        WalkRefusal::Scratch => number(b" refused ", 12),
-        WalkRefusal::Visits => number(b" refused ", 13),
-        WalkRefusal::Outside => number(b" refused ", 14),
-        WalkRefusal::Block(b) => {
-            show_block_refusal(b);
-        }
-        WalkRefusal::Full => number(b" refused ", 15),
-    }
 }
 
 // Is every place of both scratches and both lists `value`?
@@ -343,7 +317,7 @@ fn show(answer: Walked, stack: &[u32], scratch: &[u64], blocks: &[u32], list: &[
             show_read(visits, bytes, stack, scratch, blocks, list);
         }
         Walked::Refused { refusal, visits } => {
-            show_refusal(refusal);
+            show_told(refusal.told());
             number(b" visits ", visits as u64);
             show_state(stack, scratch, blocks, list);
         }

@@ -9,6 +9,7 @@ use lib.Dec.{leb, eqb}
 use lib.ListN.{length}
 use borrow.Author.Tests.{eq-eqb, ne-eqb, le-leb, lt-leb, not-true, not-false}
 use Rattle.codec.specs.Bytes.{bytesAt, beOf}
+use Rattle.blocks.specs.Offsets.{magicAt}
 use Rattle.blocks.specs.Geometry.{geometryOk}
 use Rattle.blocks.specs.Tree.{headerLen, hasTree, magicOf}
 use Rattle.blocks.specs.Check.{checkBlock}
@@ -29,7 +30,7 @@ long-holds c = le-leb _ _ (is-long c)
 tree-holds : (c : tie.Else3) → let a = c .before .before .before .before .before .before .before .args in hasTree (a .kind) (a .g .version) ≡ true
 tree-holds c = sym (c .before .is-in .ensures) ∙ not-false _ (c .if3 .left)
 
-magic-holds : (c : tie.Else4) → let a = c .before .before .before .before .before .before .before .before .before .before .args in eqb (beOf (bytesAt (a .b .now) 0 4)) (magicOf (a .kind) (a .g .version)) ≡ true
+magic-holds : (c : tie.Else4) → let a = c .before .before .before .before .before .before .before .before .before .before .args in eqb (beOf (bytesAt (a .b .now) magicAt 4)) (magicOf (a .kind) (a .g .version)) ≡ true
 magic-holds c = eq-eqb _ _ (sym (c .before .be32 .ensures) ∙ c .if4 .left ∙ c .before .before .magic .ensures)
 
 is-ok-requires : tie.Need-is-ok-requires

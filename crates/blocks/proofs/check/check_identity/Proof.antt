@@ -6,6 +6,7 @@ use mathlib.Core.Bool.{true}
 use lib.Dec.{eqb}
 use borrow.Author.Tests.{eq-eqb, ne-eqb, not-true, not-false}
 use Rattle.codec.specs.Bytes.{bytesAt, beOf, leOf}
+use Rattle.blocks.specs.Offsets.{blknoAt, uuidAt, ownerAt, crcAt}
 use Rattle.blocks.specs.Geometry.{linearOf, addressOf}
 use Rattle.blocks.specs.Check.{same, blockCrc}
 use Rattle.blocks.proofs.Laws.{address-fits}
@@ -13,19 +14,19 @@ use Rattle.blocks.proofs.check.check_identity.Statement.{statement}
 use Rattle.blocks.proofs.check.check_identity.Tie as tie
 
 -- questions 5 to 8, each where its test was passed
-crc-holds : (c : tie.Else1) → let b = c .before .before .before .before .args .b .now in eqb (leOf (bytesAt b 52 4)) (blockCrc b) ≡ true
+crc-holds : (c : tie.Else1) → let b = c .before .before .before .before .args .b .now in eqb (leOf (bytesAt b crcAt 4)) (blockCrc b) ≡ true
 crc-holds c = eq-eqb _ _ (sym (c .before .le32 .ensures) ∙ c .if1 .left ∙ c .before .before .crc32c-with-zeroed-crc .ensures)
 
-uuid-holds : (c : tie.Else2) → let a = c .before .before .before .before .before .before .before .args in same (bytesAt (a .b .now) 32 16) (a .g .«meta_uuid») ≡ true
+uuid-holds : (c : tie.Else2) → let a = c .before .before .before .before .before .before .before .args in same (bytesAt (a .b .now) uuidAt 16) (a .g .«meta_uuid») ≡ true
 uuid-holds c = sym (c .before .is-uuid .ensures) ∙ not-false _ (c .if2 .left)
 
-owner-holds : (c : tie.Else3) → let a = c .before .before .before .before .before .before .before .before .before .args in eqb (beOf (bytesAt (a .b .now) 48 4)) (a .g .agno) ≡ true
+owner-holds : (c : tie.Else3) → let a = c .before .before .before .before .before .before .before .before .before .args in eqb (beOf (bytesAt (a .b .now) ownerAt 4)) (a .g .agno) ≡ true
 owner-holds c = eq-eqb _ _ (sym (c .before .be32 .ensures) ∙ c .if3 .left)
 
 address-is : (c : tie.After-address) → let a = c .before .before .before .before .before .before .before .before .before .before .before .args in addressOf (a .g) (linearOf (a .g) (a .block .0)) ≡ c .address .result .0
 address-is c = ap (addressOf (c .before .before .before .before .before .before .before .before .before .before .before .args .g)) (sym (c .before .linear .ensures)) ∙ sym (c .address .ensures)
 
-address-holds : (c : tie.Else4) → let a = c .before .before .before .before .before .before .before .before .before .before .before .before .before .args in eqb (beOf (bytesAt (a .b .now) 16 8)) (addressOf (a .g) (linearOf (a .g) (a .block .0))) ≡ true
+address-holds : (c : tie.Else4) → let a = c .before .before .before .before .before .before .before .before .before .before .before .before .before .args in eqb (beOf (bytesAt (a .b .now) blknoAt 8)) (addressOf (a .g) (linearOf (a .g) (a .block .0))) ≡ true
 address-holds c = eq-eqb _ _ (sym (c .before .be64 .ensures) ∙ c .if4 .left ∙ sym (address-is (c .before .before)))
 
 crc32c-with-zeroed-crc-requires : tie.Need-crc32c-with-zeroed-crc-requires

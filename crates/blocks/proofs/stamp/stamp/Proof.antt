@@ -8,6 +8,7 @@ use lib.ListN.{length}
 use borrow.Author.Tests.{eq-eqb, ne-eqb}
 use Rattle.codec.specs.Bytes.{withBytes, leBytes}
 use Rattle.blocks.proofs.Heads.{withBytes-two, plain-length, identity-length}
+use Rattle.blocks.specs.Offsets.{magicAt, blknoAt, crcAt}
 use Rattle.blocks.specs.Stamp.{plainHead, identityHead, withCrc, stamped}
 use Rattle.blocks.proofs.Laws.{header-least, header-five}
 use Rattle.blocks.proofs.stamp.stamp.Statement.{statement}
@@ -18,13 +19,13 @@ uuid-long : (s : tie.Start) → length (s .args .g .«meta_uuid») ≡ 16
 uuid-long s = search needs
 
 -- the block before its check is written
-head : (c : tie.After-slice-known4) → let a = c .before .before .before .before .before .before .before .before .before .before .before .before .before .before .before .before .args in c .before .before .before .before .before .before .before .before .stamp-identity .last .1 .1 .0 ≡ withBytes (a .b .now) 0 (plainHead (a .kind) (a .g .version) (a .level) (a .numrecs) (a .left .0) (a .right .0) ++ identityHead (a .g) (a .block .0))
+head : (c : tie.After-slice-known4) → let a = c .before .before .before .before .before .before .before .before .before .before .before .before .before .before .before .before .args in c .before .before .before .before .before .before .before .before .stamp-identity .last .1 .1 .0 ≡ withBytes (a .b .now) magicAt (plainHead (a .kind) (a .g .version) (a .level) (a .numrecs) (a .left .0) (a .right .0) ++ identityHead (a .g) (a .block .0))
 head c =
     let a = c .before .before .before .before .before .before .before .before .before .before .before .before .before .before .before .before .args in
     let plain = plain-length (a .kind) (a .g .version) (a .level) (a .numrecs) (a .left .0) (a .right .0) in
     let identity = identity-length (a .g) (a .block .0) (uuid-long (c .before .before .before .before .before .before .before .before .before .before .before .before .before .before .before .before)) in
     let long = header-five (a .g .version) (c .before .before .before .before .before .before .before .before .before .before .if1 .taken) in
-    withBytes-two (a .b .now) 0 (plainHead (a .kind) (a .g .version) (a .level) (a .numrecs) (a .left .0) (a .right .0)) (identityHead (a .g) (a .block .0)) _ _ 16
+    withBytes-two (a .b .now) magicAt (plainHead (a .kind) (a .g .version) (a .level) (a .numrecs) (a .left .0) (a .right .0)) (identityHead (a .g) (a .block .0)) _ _ blknoAt
     (c .before .before .before .before .before .before .before .before .before .before .before .before .before .stamp-plain .ensures)
     (c .before .before .before .before .before .before .before .before .stamp-identity .ensures)
     (omega arith)
@@ -50,7 +51,7 @@ unfolding stamped
 returns c =
     rw (eq-eqb _ _ (c .before .before .before .before .before .before .before .before .before .before .if1 .taken))
     (c .before .before .put-le32 .ensures
-    ∙ ap (λ n. withBytes (c .before .before .before .before .before .before .before .before .stamp-identity .last .1 .1 .0) 52 (leBytes 4 n)) (c .before .before .before .before .crc32c-with-zeroed-crc .ensures)
+    ∙ ap (λ n. withBytes (c .before .before .before .before .before .before .before .before .stamp-identity .last .1 .1 .0) crcAt (leBytes 4 n)) (c .before .before .before .before .crc32c-with-zeroed-crc .ensures)
     ∙ ap withCrc (head c))
 
 same-length-2 : tie.Need-same-length-2

@@ -6,6 +6,7 @@ use mathlib.Core.List.{_++_}
 use native.Mathlib.Omega.{arith}
 use Rattle.codec.specs.Bytes.{beBytes}
 use Rattle.blocks.proofs.Heads.{withBytes-two}
+use Rattle.blocks.specs.Offsets.{magicAt, levelAt, numrecsAt, leftSiblingAt}
 use Rattle.blocks.specs.Stamp.{siblings}
 use Rattle.blocks.proofs.stamp.stamp_plain.Statement.{statement}
 use Rattle.blocks.proofs.stamp.stamp_plain.Tie as tie
@@ -36,9 +37,9 @@ returns c =
     let m = beBytes 4 (c .before .before .before .before .before .before .before .before .before .before .before .before .before .before .before .before .magic .result) in
     let l = beBytes 2 (a .level) in
     let n = beBytes 2 (a .numrecs) in
-    let two = withBytes-two b 0 m l _ _ 4 (c .before .before .before .before .before .before .before .before .before .before .before .before .before .before .put-be32 .ensures) (c .before .before .before .before .before .before .before .before .before .before .put-be16 .ensures) refl (omega arith) in
-    let three = withBytes-two b 0 (m ++ l) n _ _ 6 two (c .before .before .before .before .before .before .put-be162 .ensures) refl (omega arith) in
-    rw (← c .before .before .before .before .before .before .before .before .before .before .before .before .before .before .before .before .magic .ensures) (withBytes-two b 0 (m ++ l ++ n) (siblings (a .left .0) (a .right .0)) _ _ 8 three (c .before .before .stamp-siblings .ensures) refl (omega arith))
+    let two = withBytes-two b magicAt m l _ _ levelAt (c .before .before .before .before .before .before .before .before .before .before .before .before .before .before .put-be32 .ensures) (c .before .before .before .before .before .before .before .before .before .before .put-be16 .ensures) refl (omega arith) in
+    let three = withBytes-two b magicAt (m ++ l) n _ _ numrecsAt two (c .before .before .before .before .before .before .put-be162 .ensures) refl (omega arith) in
+    rw (← c .before .before .before .before .before .before .before .before .before .before .before .before .before .before .before .before .magic .ensures) (withBytes-two b magicAt (m ++ l ++ n) (siblings (a .left .0) (a .right .0)) _ _ leftSiblingAt three (c .before .before .stamp-siblings .ensures) refl (omega arith))
 
 pub stamp-plain-spec : {M : Type 1} → statement M
 stamp-plain-spec =

@@ -4,6 +4,7 @@ use borrow.Author.Needs.{needs}
 use mathlib.Core.Path.{refl}
 use native.Mathlib.Omega.{arith}
 use Rattle.codec.specs.Bytes.{beBytes}
+use Rattle.blocks.specs.Offsets.{leftSiblingAt, rightSiblingAt}
 use Rattle.blocks.proofs.Heads.{withBytes-two}
 use Rattle.blocks.proofs.stamp.stamp_siblings.Statement.{statement}
 use Rattle.blocks.proofs.stamp.stamp_siblings.Tie as tie
@@ -21,7 +22,7 @@ returns : tie.Need-returns
 unfolding beBytes
 returns c =
     let a = c .before .before .before .before .before .before .before .before .before .args in
-    withBytes-two (a .b .now) 8 (beBytes 4 (a .left .0)) (beBytes 4 (a .right .0)) _ _ 12 (c .before .before .before .before .before .before .put-be32 .ensures) (c .before .before .put-be322 .ensures) refl (omega arith)
+    withBytes-two (a .b .now) leftSiblingAt (beBytes 4 (a .left .0)) (beBytes 4 (a .right .0)) _ _ rightSiblingAt (c .before .before .before .before .before .before .put-be32 .ensures) (c .before .before .put-be322 .ensures) refl (omega arith)
 
 pub stamp-siblings-spec : {M : Type 1} → statement M
 stamp-siblings-spec =

@@ -9,17 +9,14 @@ use Rattle.codec.proofs.rmap.good.Tie as tie
 returns : tie.Need-returns
 returns c = good-zero _ (c .if1 .taken)
 
-cast-if2 : tie.Need-cast-if2
-cast-if2 c = search needs
-
-cast-if2-2 : tie.Need-cast-if2-2
-cast-if2-2 c = search needs
-
-add-if2 : tie.Need-add-if2
-add-if2 c = search needs
+end-requires : tie.Need-end-requires
+end-requires c κs = search needs
 
 returns-2 : tie.Need-returns-2
 returns-2 c = good-long _ (omega arith) (omega arith)
+
+file-offset-requires : tie.Need-file-offset-requires
+file-offset-requires c κs = search needs
 
 cast-if3 : tie.Need-cast-if3
 cast-if3 c = search needs
@@ -38,15 +35,4 @@ returns-4 c = good-far _ (omega arith) (omega arith) (omega arith) _ (c .exempt 
 
 pub good-spec : {M : Type 1} → statement M
 good-spec =
-    tie.close
-    (tie.spec
-    returns
-    cast-if2
-    cast-if2-2
-    add-if2
-    returns-2
-    cast-if3
-    add-if3
-    returns-3
-    exempt-requires
-    returns-4)
+    tie.close (tie.spec returns end-requires returns-2 file-offset-requires cast-if3 add-if3 returns-3 exempt-requires returns-4)

@@ -1,10 +1,14 @@
 -- `groups::take_held::take_held` meets its contract, exit by exit.
 -- Assumes nothing.
 use mathlib.Core.Path.{subst}
+use mathlib.Core.List.{[]}
 use denote.Ref.{now}
-use Rattle.groups.specs.declared.take_held.Raising.the-variants as raising
-use Rattle.groups.specs.TakeHeldAnswer.{RaisingIs}
-use Rattle.groups.proofs.TakingHeld.{tells-refused, tells-short-map, tells-short-counts, raisable, tells-done}
+use Rattle.codec.specs.Records.{recordsOf, rmaps, refcounts}
+use Rattle.groups.specs.declared.measured.Measured.the-variants as measured
+use Rattle.groups.specs.TakeHeld.{raising, takeHeldQuestions, takeHeldOutcome}
+use Rattle.groups.specs.inner.Measured.{TakeHeldMeasured}
+use Rattle.groups.proofs.Measuring.{tells-refused, tells-room, map-fits, counts-fit, tells-done}
+use Rattle.groups.proofs.TakingHeld.{raisable, none-written}
 use borrow.Author.Needs.{needs}
 use Rattle.groups.proofs.take_held.take_held.Statement.{statement}
 use Rattle.groups.proofs.take_held.take_held.Tie as tie
@@ -18,44 +22,43 @@ enum-known-measured c = search needs
 enum-known-measured-2 : tie.Need-enum-known-measured-2
 enum-known-measured-2 c = search needs
 
+fit-all-requires : tie.Need-fit-all-requires
+fit-all-requires c κs = search needs
+
 returns : tie.Need-returns
+unfolding takeHeldOutcome
 returns c =
-    let a = c .before .before .before .before .before .before .before .before .before .before .args in
-    let r = c .before .before .before .measured2 .given in
-    let h : RaisingIs (now (a .map)) (now (a .counts)) (a .x) (raising.Ready (r .0 .0)) =
-    subst (RaisingIs (now (a .map)) (now (a .counts)) (a .x)) (r .1) (c .before .before .before .before .before .measure-both .ensures) in
-    tells-short-map (now (a .map)) (now (a .counts)) (a .x) (now (a .taken)) (now (a .raised)) (r .0 .0) h (c .if1 .taken)
-
-returns-2 : tie.Need-returns-2
-returns-2 c =
-    let a = c .before .before .before .before .before .before .before .before .before .before .before .args in
-    let r = c .before .before .before .before .measured2 .given in
-    let h : RaisingIs (now (a .map)) (now (a .counts)) (a .x) (raising.Ready (r .0 .0)) =
-    subst (RaisingIs (now (a .map)) (now (a .counts)) (a .x)) (r .1) (c .before .before .before .before .before .before .measure-both .ensures) in
-    tells-short-counts (now (a .map)) (now (a .counts)) (a .x) (now (a .taken)) (now (a .raised)) (r .0 .0) h (c .before .if1 .left) (c .if2 .taken)
-
-write-plan-requires : tie.Need-write-plan-requires
-write-plan-requires c κs =
     let a = c .before .before .before .before .before .before .before .before .before .before .before .before .args in
     let r = c .before .before .before .before .before .measured2 .given in
-    let h : RaisingIs (now (a .map)) (now (a .counts)) (a .x) (raising.Ready (r .0 .0)) =
-    subst (RaisingIs (now (a .map)) (now (a .counts)) (a .x)) (r .1) (c .before .before .before .before .before .before .before .measure-both .ensures) in
-    (h .plan, c .before .before .if1 .left)
+    let h : TakeHeldMeasured (now (a .map)) (now (a .counts)) (a .x) (measured.Ready (r .0 .0)) =
+    subst (TakeHeldMeasured (now (a .map)) (now (a .counts)) (a .x)) (r .1) (c .before .before .before .before .before .before .before .measure-both .ensures) in
+    tells-room (now (a .taken)) (now (a .raised)) [] (r .0 .0) h _ (c .before .fit-all .ensures) (c .if1 .taken)
+
+write-splice-requires : tie.Need-write-splice-requires
+write-splice-requires c κs =
+    let a = c .before .before .before .before .before .before .before .before .before .before .before .before .before .args in
+    let r = c .before .before .before .before .before .before .measured2 .given in
+    let h : TakeHeldMeasured (now (a .map)) (now (a .counts)) (a .x) (measured.Ready (r .0 .0)) =
+    subst (TakeHeldMeasured (now (a .map)) (now (a .counts)) (a .x)) (r .1) (c .before .before .before .before .before .before .before .before .measure-both .ensures) in
+    (h .splice, map-fits (now (a .taken)) (now (a .raised)) [] (r .0 .0) h _ (c .before .before .fit-all .ensures) (c .before .if1 .left))
 
 write-requires : tie.Need-write-requires
 write-requires c κs =
-    let a = c .before .before .before .before .before .before .before .before .before .before .before .before .before .before .before .before .args in
-    let r = c .before .before .before .before .before .before .before .before .before .measured2 .given in
-    let h : RaisingIs (now (a .map)) (now (a .counts)) (a .x) (raising.Ready (r .0 .0)) =
-    subst (RaisingIs (now (a .map)) (now (a .counts)) (a .x)) (r .1) (c .before .before .before .before .before .before .before .before .before .before .before .measure-both .ensures) in
-    raisable (now (a .map)) (now (a .counts)) (a .x) (now (a .taken)) (now (a .raised)) (r .0 .0) h (c .before .before .before .before .before .if2 .left)
+    let a = c .before .before .before .before .before .before .before .before .before .before .before .before .before .before .before .before .before .args in
+    let r = c .before .before .before .before .before .before .before .before .before .before .measured2 .given in
+    let h : TakeHeldMeasured (now (a .map)) (now (a .counts)) (a .x) (measured.Ready (r .0 .0)) =
+    subst (TakeHeldMeasured (now (a .map)) (now (a .counts)) (a .x)) (r .1) (c .before .before .before .before .before .before .before .before .before .before .before .before .measure-both .ensures) in
+    raisable (now (a .map)) (now (a .counts)) (a .x) (r .0 .0) h _
+    (counts-fit (now (a .taken)) (now (a .raised)) [] (r .0 .0) h _ (c .before .before .before .before .before .before .fit-all .ensures) (c .before .before .before .before .before .if1 .left))
 
-returns-3 : tie.Need-returns-3
-returns-3 c =
+returns-2 : tie.Need-returns-2
+unfolding takeHeldOutcome
+returns-2 c =
     let a = c .before .before .before .before .before .before .before .before .args in
     let r = c .before .measured .given in
-    tells-refused (now (a .map)) (now (a .counts)) (a .x) (now (a .taken)) (now (a .raised)) (r .0 .0)
-    (subst (RaisingIs (now (a .map)) (now (a .counts)) (a .x)) (r .1) (c .before .before .before .measure-both .ensures))
+    tells-refused (takeHeldQuestions (now (a .map)) (now (a .counts)) (a .x))
+    (raising (a .x) (recordsOf rmaps (now (a .map))) (recordsOf refcounts (now (a .counts)))) (now (a .taken)) (now (a .raised)) [] (r .0 .0)
+    (subst (TakeHeldMeasured (now (a .map)) (now (a .counts)) (a .x)) (r .1) (c .before .before .before .measure-both .ensures))
 
 same-length : tie.Need-same-length
 same-length c = search needs
@@ -63,13 +66,15 @@ same-length c = search needs
 same-length-2 : tie.Need-same-length-2
 same-length-2 c = search needs
 
-returns-4 : tie.Need-returns-4
-returns-4 c =
-    let a = c .before .before .before .before .before .before .before .before .before .before .before .before .before .before .before .before .before .before .before .args in
-    let r = c .before .before .before .before .before .before .before .before .before .before .before .before .measured2 .given in
-    let h : RaisingIs (now (a .map)) (now (a .counts)) (a .x) (raising.Ready (r .0 .0)) =
-    subst (RaisingIs (now (a .map)) (now (a .counts)) (a .x)) (r .1) (c .before .before .before .before .before .before .before .before .before .before .before .before .before .before .measure-both .ensures) in
-    tells-done (now (a .map)) (now (a .counts)) (a .x) (now (a .taken)) (now (a .raised)) (r .0 .0) h (c .before .before .before .before .before .before .before .before .before .if1 .left) (c .before .before .before .before .before .before .before .before .if2 .left) _ _ (c .before .before .before .before .before .before .write-plan .ensures) (c .before .before .write .ensures)
+returns-3 : tie.Need-returns-3
+unfolding takeHeldOutcome
+returns-3 c =
+    let a = c .before .before .before .before .before .before .before .before .before .before .before .before .before .before .before .before .before .before .before .before .args in
+    let r = c .before .before .before .before .before .before .before .before .before .before .before .before .before .measured2 .given in
+    let h : TakeHeldMeasured (now (a .map)) (now (a .counts)) (a .x) (measured.Ready (r .0 .0)) =
+    subst (TakeHeldMeasured (now (a .map)) (now (a .counts)) (a .x)) (r .1) (c .before .before .before .before .before .before .before .before .before .before .before .before .before .before .before .measure-both .ensures) in
+    tells-done (now (a .taken)) (now (a .raised)) [] (r .0 .0) h _ (c .before .before .before .before .before .before .before .before .before .fit-all .ensures) (c .before .before .before .before .before .before .before .before .if1 .left) _ _ []
+    (c .before .before .before .before .before .before .write-splice .ensures) (c .before .before .write .ensures) none-written
 
 pub take-held-spec : {M : Type 1} → statement M
 take-held-spec =
@@ -78,11 +83,11 @@ take-held-spec =
     measure-both-requires
     enum-known-measured
     enum-known-measured-2
+    fit-all-requires
     returns
-    returns-2
-    write-plan-requires
+    write-splice-requires
     write-requires
-    returns-3
+    returns-2
     same-length
     same-length-2
-    returns-4)
+    returns-3)

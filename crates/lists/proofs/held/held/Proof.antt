@@ -34,11 +34,8 @@ decode-requires c κs = omega arith
 cast-start : tie.Need-cast-start Inv-loop μ-loop
 cast-start c = search needs
 
-cast-stop : tie.Need-cast-stop Inv-loop μ-loop
-cast-stop c = search needs
-
-add-stop : tie.Need-add-stop Inv-loop μ-loop
-add-stop c = search needs
+end-requires : tie.Need-end-requires Inv-loop μ-loop
+end-requires c κs = search needs
 
 returns : tie.Need-returns Inv-loop μ-loop
 returns c =
@@ -79,8 +76,7 @@ held-spec =
     mul-decode
     decode-requires
     cast-start
-    cast-stop
-    add-stop
+    end-requires
     returns
     add-i
     loop-less

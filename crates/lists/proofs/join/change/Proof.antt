@@ -3,6 +3,7 @@
 use mathlib.Core.Path.{sym, _∙_}
 use denote.Ref.{now}
 use Rattle.lists.specs.Release.{stop}
+use Rattle.lists.specs.inner.Passes.{raises, writesCounts}
 use Rattle.lists.proofs.CountJoins.{asks-whole, whole-pushed, meets-start}
 use borrow.Author.Needs.{needs}
 use Rattle.lists.proofs.join.change.Statement.{statement}
@@ -35,14 +36,14 @@ cast-push c = search needs
 
 push-requires : tie.Need-push-requires
 push-requires c κs = let x = c .before .before .before .before .before .before .before .args in
-    asks-whole (x .up) (x .write) (x .s) (x .e) (x .j) (x .r) (now (x .new)) (c .before .before .before .before .before .before .before .pre) (sym (c .before .before .before .meets .ensures) ∙ c .before .before .if1 .left)
+    asks-whole (raises (x .how)) (writesCounts (x .pass)) (x .s) (x .e) (x .j) (x .r) (now (x .new)) (c .before .before .before .before .before .before .before .pre) (sym (c .before .before .before .meets .ensures) ∙ c .before .before .if1 .left)
 
 same-length-2 : tie.Need-same-length-2
 same-length-2 c = search needs
 
 returns-2 : tie.Need-returns-2
 returns-2 c = let x = c .before .before .before .before .before .before .before .before .before .before .args in
-    whole-pushed (x .up) (x .write) (x .s) (x .e) (x .j) (x .r) (now (x .new)) (c .before .before .before .before .before .before .before .before .before .before .pre) (sym (c .before .before .before .before .before .before .meets .ensures) ∙ c .before .before .before .before .before .if1 .left) (c .before .before .push .result) _ (c .before .before .push .ensures)
+    whole-pushed (raises (x .how)) (writesCounts (x .pass)) (x .s) (x .e) (x .j) (x .r) (now (x .new)) (c .before .before .before .before .before .before .before .before .before .before .pre) (sym (c .before .before .before .before .before .before .meets .ensures) ∙ c .before .before .before .before .before .if1 .left) (c .before .before .push .result) _ (c .before .before .push .ensures)
 
 pub change-spec : {M : Type 1} → statement M
 change-spec =

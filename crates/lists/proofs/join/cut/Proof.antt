@@ -2,6 +2,7 @@
 -- Assumes nothing.
 use native.Mathlib.Omega.{arith}
 use denote.Ref.{now}
+use Rattle.lists.specs.inner.Passes.{raises, writesCounts}
 use Rattle.lists.proofs.CountJoins.{asks-front, asks-middle, asks-behind, changed-pushed}
 use borrow.Author.Needs.{needs}
 use Rattle.lists.proofs.join.cut.Statement.{statement}
@@ -33,7 +34,7 @@ push-requires c κs = let x = c .before .before .before .before .before .before 
     let a = c .before .before .before .clamp in
     let z = c .before .before .clamp2 in
     let m = c .before .next in
-    asks-front (x .up) (x .write) (x .s) (x .e) (x .j) (x .r) (now (x .new)) (c .before .before .before .before .before .before .before .before .pre .0) (c .before .before .before .before .before .before .before .before .pre .1) (a .result) (z .result) (m .result) (a .ensures) (z .ensures) (m .ensures)
+    asks-front (raises (x .how)) (writesCounts (x .pass)) (x .s) (x .e) (x .j) (x .r) (now (x .new)) (c .before .before .before .before .before .before .before .before .pre .0) (c .before .before .before .before .before .before .before .before .pre .1) (a .result) (z .result) (m .result) (a .ensures) (z .ensures) (m .ensures)
 
 push-requires-2 : tie.Need-push-requires-2
 push-requires-2 c κs = let x = c .before .before .before .before .before .before .before .before .before .before .before .before .args in
@@ -41,7 +42,7 @@ push-requires-2 c κs = let x = c .before .before .before .before .before .befor
     let z = c .before .before .before .before .before .before .clamp2 in
     let m = c .before .before .before .before .before .next in
     let f = c .before .before .before .push in
-    asks-middle (x .up) (x .write) (x .s) (x .e) (x .j) (x .r) (now (x .new)) (c .before .before .before .before .before .before .before .before .before .before .before .before .pre .0) (c .before .before .before .before .before .before .before .before .before .before .before .before .pre .1) (a .result) (z .result) (m .result) (a .ensures) (z .ensures) (m .ensures)
+    asks-middle (raises (x .how)) (writesCounts (x .pass)) (x .s) (x .e) (x .j) (x .r) (now (x .new)) (c .before .before .before .before .before .before .before .before .before .before .before .before .pre .0) (c .before .before .before .before .before .before .before .before .before .before .before .before .pre .1) (a .result) (z .result) (m .result) (a .ensures) (z .ensures) (m .ensures)
     (f .result) _ (f .ensures) (omega (arith, f .kept .1 .1 .1 .1 .0))
 
 push-requires-3 : tie.Need-push-requires-3
@@ -51,7 +52,7 @@ push-requires-3 c κs = let x = c .before .before .before .before .before .befor
     let m = c .before .before .before .before .before .before .before .before .before .next in
     let f = c .before .before .before .before .before .before .before .push in
     let g = c .before .before .before .push2 in
-    asks-behind (x .up) (x .write) (x .s) (x .e) (x .j) (x .r) (now (x .new)) (c .before .before .before .before .before .before .before .before .before .before .before .before .before .before .before .before .pre .0) (c .before .before .before .before .before .before .before .before .before .before .before .before .before .before .before .before .pre .1) (a .result) (z .result) (m .result) (a .ensures) (z .ensures) (m .ensures)
+    asks-behind (raises (x .how)) (writesCounts (x .pass)) (x .s) (x .e) (x .j) (x .r) (now (x .new)) (c .before .before .before .before .before .before .before .before .before .before .before .before .before .before .before .before .pre .0) (c .before .before .before .before .before .before .before .before .before .before .before .before .before .before .before .before .pre .1) (a .result) (z .result) (m .result) (a .ensures) (z .ensures) (m .ensures)
     (f .result) _ (f .ensures) (omega (arith, f .kept .1 .1 .1 .1 .0))
     (g .result) _ (g .ensures) (omega (arith, g .kept .1 .1 .1 .1 .0))
 
@@ -66,7 +67,7 @@ returns c = let x = c .before .before .before .before .before .before .before .b
     let f = c .before .before .before .before .before .before .before .before .before .before .push in
     let g = c .before .before .before .before .before .before .push2 in
     let h = c .before .before .push3 in
-    changed-pushed (x .up) (x .write) (x .s) (x .e) (x .j) (x .r) (now (x .new)) (c .before .before .before .before .before .before .before .before .before .before .before .before .before .before .before .before .before .before .before .pre .0) (c .before .before .before .before .before .before .before .before .before .before .before .before .before .before .before .before .before .before .before .pre .1) (a .result) (z .result) (m .result) (a .ensures) (z .ensures) (m .ensures)
+    changed-pushed (raises (x .how)) (writesCounts (x .pass)) (x .s) (x .e) (x .j) (x .r) (now (x .new)) (c .before .before .before .before .before .before .before .before .before .before .before .before .before .before .before .before .before .before .before .pre .0) (c .before .before .before .before .before .before .before .before .before .before .before .before .before .before .before .before .before .before .before .pre .1) (a .result) (z .result) (m .result) (a .ensures) (z .ensures) (m .ensures)
     (f .result) _ (f .ensures) (omega (arith, f .kept .1 .1 .1 .1 .0))
     (g .result) _ (g .ensures) (omega (arith, g .kept .1 .1 .1 .1 .0))
     (h .result) _ (h .ensures)

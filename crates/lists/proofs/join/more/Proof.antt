@@ -5,6 +5,9 @@ use borrow.Author.Needs.{needs}
 use Rattle.lists.proofs.join.more.Statement.{statement}
 use Rattle.lists.proofs.join.more.Tie as tie
 
+cast-if1 : tie.Need-cast-if1
+cast-if1 c = search needs
+
 returns : tie.Need-returns
 returns c = more-full _ (search needs)
 
@@ -15,4 +18,4 @@ returns-2 : tie.Need-returns-2
 returns-2 c = more-some _ (search needs)
 
 pub more-spec : {M : Type 1} → statement M
-more-spec = tie.close (tie.spec returns add-result returns-2)
+more-spec = tie.close (tie.spec cast-if1 returns add-result returns-2)

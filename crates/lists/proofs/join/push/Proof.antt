@@ -1,6 +1,7 @@
 -- `lists::join::push` meets its contract.
 -- Assumes nothing.
 use native.Mathlib.Omega.{arith}
+use Rattle.lists.specs.inner.Passes.{writesCounts}
 use Rattle.lists.proofs.CountJoins.{share-none, share-zero, short, push-none, joined-short, push-join, push-next}
 use borrow.Author.Needs.{needs}
 use Rattle.lists.proofs.join.push.Statement.{statement}
@@ -24,7 +25,7 @@ cast-t11 c = let x = c .before .before .before .before .before .args in omega (a
 add-t12 : tie.Need-add-t12
 add-t12 c = let x = c .before .before .before .before .before .before .args in
     let p = c .before .before .before .before .before .before .pre in
-    omega (arith, joined-short (x .write) (x .j) (x .a) (x .z) (x .n) (search needs) (search needs) (p .0) (p .1 .1 .0) (p .1 .0 .1) (cc))
+    omega (arith, joined-short (writesCounts (x .pass)) (x .j) (x .a) (x .z) (x .n) (search needs) (search needs) (p .0) (p .1 .1 .0) (p .1 .0 .1) (cc))
 
 cast-t13 : tie.Need-cast-t13
 cast-t13 c = search needs

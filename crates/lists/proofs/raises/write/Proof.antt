@@ -16,7 +16,7 @@ same-length : tie.Need-same-length
 same-length c = search needs
 
 returns : tie.Need-returns
-returns c = c .before .before .before .pass .ensures .1 .0 refl
+returns c = c .before .before .before .pass .ensures .counts refl
 
 pub write-spec : {M : Type 1} → statement M
 write-spec = tie.close (tie.spec slice-aggregate-pass pass-requires same-length returns)

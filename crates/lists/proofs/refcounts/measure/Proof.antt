@@ -36,7 +36,7 @@ pass-requires c κs = let g = c .before .before .before .before .good-extent in
 returns-3 : tie.Need-returns-3
 returns-3 c = let x = c .before .before .before .before .before .before .before .before .before .args in
     let g = c .before .before .before .before .before .before .before .good-extent in
-    measure-pass (now (x .counts)) (x .startblock) (x .blockcount) _ (c .before .before .before .before .before .if2 .left) (sym (g .ensures) ∙ not-false _ (c .before .before .before .before .before .before .if1 .left)) (c .before .before .pass .ensures .0)
+    measure-pass (now (x .counts)) (x .startblock) (x .blockcount) _ (c .before .before .before .before .before .if2 .left) (sym (g .ensures) ∙ not-false _ (c .before .before .before .before .before .before .if1 .left)) (c .before .before .pass .ensures .said)
 
 pub measure-spec : {M : Type 1} → statement M
 measure-spec =

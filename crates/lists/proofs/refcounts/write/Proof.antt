@@ -16,7 +16,7 @@ same-length-2 : tie.Need-same-length-2
 same-length-2 c = search needs
 
 returns : tie.Need-returns
-returns c = let e = c .before .before .before .before .pass .ensures in (e .1 .0 refl, e .1 .1 refl)
+returns c = let e = c .before .before .before .before .pass .ensures in (e .counts refl, e .extents refl)
 
 pub write-spec : {M : Type 1} → statement M
 write-spec = tie.close (tie.spec pass-requires same-length same-length-2 returns)

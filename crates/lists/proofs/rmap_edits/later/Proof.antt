@@ -6,23 +6,11 @@ use borrow.Author.Needs.{needs}
 use Rattle.lists.proofs.rmap_edits.later.Statement.{statement}
 use Rattle.lists.proofs.rmap_edits.later.Tie as tie
 
-cast-stop : tie.Need-cast-stop
-cast-stop c = search needs
+end-requires : tie.Need-end-requires
+end-requires c κs = search needs
 
-cast-stop-2 : tie.Need-cast-stop-2
-cast-stop-2 c = search needs
-
-add-stop : tie.Need-add-stop
-add-stop c = search needs
-
-cast-whole : tie.Need-cast-whole
-cast-whole c = search needs
-
-cast-whole-2 : tie.Need-cast-whole-2
-cast-whole-2 c = search needs
-
-add-whole : tie.Need-add-whole
-add-whole c = search needs
+end-requires-2 : tie.Need-end-requires-2
+end-requires-2 c κs = search needs
 
 cast-moved : tie.Need-cast-moved
 cast-moved c = search needs
@@ -34,7 +22,7 @@ moved-requires : tie.Need-moved-requires
 moved-requires c κs = search needs
 
 cast-t8 : tie.Need-cast-t8
-cast-t8 c = omega (arith, good-end _ (c .before .before .before .before .before .before .pre .0))
+cast-t8 c = omega (arith, good-end _ (c .before .before .before .before .pre .0))
 
 sub-t6 : tie.Need-sub-t6
 sub-t6 c = search needs
@@ -43,18 +31,14 @@ cast-t9 : tie.Need-cast-t9
 cast-t9 c = search needs
 
 returns : tie.Need-returns
-returns c = later-is (c .before .before .before .before .before .before .args .x) (c .before .before .before .before .before .before .args .w) _ (c .moved .ensures)
+returns c = later-is (c .before .before .before .before .args .x) (c .before .before .before .before .args .w) _ _ _ (c .before .before .before .end .ensures) (c .before .before .end2 .ensures) (c .moved .ensures)
 
 pub later-spec : {M : Type 1} → statement M
 later-spec =
     tie.close
     (tie.spec
-    cast-stop
-    cast-stop-2
-    add-stop
-    cast-whole
-    cast-whole-2
-    add-whole
+    end-requires
+    end-requires-2
     cast-moved
     sub-moved
     moved-requires

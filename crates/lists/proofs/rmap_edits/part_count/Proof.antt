@@ -6,8 +6,8 @@ use borrow.Author.Needs.{needs}
 use Rattle.lists.proofs.rmap_edits.part_count.Statement.{statement}
 use Rattle.lists.proofs.rmap_edits.part_count.Tie as tie
 
-sub-run : tie.Need-sub-run
-sub-run c = search needs
+sub-copied : tie.Need-sub-copied
+sub-copied c = search needs
 
 add-result : tie.Need-add-result
 add-result c = search needs
@@ -19,4 +19,4 @@ returns-2 : tie.Need-returns-2
 returns-2 c = rw (c .if1 .left) (omega arith)
 
 pub part-count-spec : {M : Type 1} → statement M
-part-count-spec = tie.close (tie.spec sub-run add-result returns returns-2)
+part-count-spec = tie.close (tie.spec sub-copied add-result returns returns-2)

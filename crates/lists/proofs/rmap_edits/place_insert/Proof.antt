@@ -6,11 +6,11 @@ use mathlib.Core.Path.{refl, sym}
 use Rattle.codec.specs.Records.{recordsOf, rmaps}
 use Rattle.codec.proofs.RecordLists.{length-recordsOf}
 use Rattle.lists.specs.declared.EditRefusal.the-variants as why
-use Rattle.lists.specs.declared.rmap_plans.Edit.the-variants.{Insert}
-use Rattle.lists.specs.RmapPlans.{tests}
+use Rattle.lists.specs.declared.splice.Edit.the-variants.{Insert}
+use Rattle.lists.specs.inner.Searches.{tests}
 use Rattle.lists.proofs.Joining.{high-end}
-use Rattle.lists.proofs.Planning.{insert-parts, insert-good}
-use Rattle.lists.proofs.Placing.{found-le, good-end, unheld-found, held-found, planned-is, refused-is}
+use Rattle.lists.proofs.Splicing.{insert-parts, insert-good}
+use Rattle.lists.proofs.Placing.{found-le, good-end, unheld-found, held-found, prepared-is, refused-is}
 use borrow.Author.Needs.{needs}
 use Rattle.lists.proofs.rmap_edits.place_insert.Statement.{statement}
 use Rattle.lists.proofs.rmap_edits.place_insert.Tie as tie
@@ -23,7 +23,7 @@ unfolding tests
 returns c =
     let p = c .before .before .before .before in
     let b = now (p .args .old) in
-    refused-is Insert b _ (p .pre .0) why.Overlap (held-found b _ (p .pre .0) _ (p .pre .1 .first) (omega (arith, found-le _ b _ (c .before .before .after .ensures)))) refl refl
+    refused-is Insert b _ (p .pre .0) why.Overlap (held-found b _ (p .pre .0) _ (p .pre .1 .conflict) (omega (arith, found-le _ b _ (c .before .before .after .ensures)))) refl refl
 
 join-at-requires : tie.Need-join-at-requires
 join-at-requires c κs = let p = c .before .before .before .before .pre .0 in (p .ordered, good-end _ (p .extent))
@@ -55,7 +55,7 @@ returns-2 c =
     let p = c .before .before .before .before .before .before .before .before .before .before .before .before in
     let a = p .args in
     let b = now (a .old) in
-    planned-is Insert b _ (p .pre .0) _ _ (unheld-found b _ (p .pre .0) _ (p .pre .1 .first) (omega arith))
+    prepared-is Insert b _ (p .pre .0) _ _ (unheld-found b _ (p .pre .0) _ (p .pre .1 .conflict) (omega arith))
     (insert-parts (a .x) (recordsOf rmaps b) _ (sym (length-recordsOf rmaps b)) _ _ _ _ _ _ (c .before .before .before .before .before .before .before .before .before .before .after .ensures) (c .before .before .before .before .before .before .before .join-at .ensures) (c .before .before .before .before .before .previous .ensures) (c .before .before .before .before .join-at2 .ensures) (c .before .before .pick .ensures) (c .before .pick2 .ensures) _)
     (c .ready .ensures)
 

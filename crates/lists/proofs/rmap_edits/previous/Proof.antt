@@ -1,6 +1,6 @@
 -- `lists::rmap_edits::previous` meets its contract.
 -- Assumes nothing.
-use Rattle.lists.proofs.Planning.{previous-zero, previous-some}
+use Rattle.lists.proofs.Splicing.{previous-zero, previous-some}
 use borrow.Author.Needs.{needs}
 use Rattle.lists.proofs.rmap_edits.previous.Statement.{statement}
 use Rattle.lists.proofs.rmap_edits.previous.Tie as tie

@@ -7,7 +7,7 @@ use Rattle.codec.specs.Rmaps.{accepted}
 use Rattle.codec.specs.Records.{recordsOf, rmaps}
 use mathlib.Core.Bool.{true}
 use mathlib.Core.Path.{_≡_}
-use Rattle.lists.proofs.Planning.{asked-length, asked-order, asked-extent}
+use Rattle.lists.proofs.Splicing.{asked-length, asked-order, asked-extent}
 use borrow.Author.Needs.{needs}
 use Rattle.lists.proofs.search.asked.Statement.{statement}
 use Rattle.lists.proofs.search.asked.Tie as tie

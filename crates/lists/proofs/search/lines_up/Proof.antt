@@ -12,11 +12,17 @@ exempt-requires c κs = search needs
 returns : tie.Need-returns
 returns c = lines-exempt _ _ (sym (c .before .exempt .ensures) ∙ c .if1 .taken)
 
+file-offset-requires : tie.Need-file-offset-requires
+file-offset-requires c κs = search needs
+
 cast-result : tie.Need-cast-result
 cast-result c = search needs
 
 add-result : tie.Need-add-result
 add-result c = search needs
+
+file-offset-requires-2 : tie.Need-file-offset-requires-2
+file-offset-requires-2 c κs = search needs
 
 cast-result-2 : tie.Need-cast-result-2
 cast-result-2 c = search needs
@@ -25,9 +31,18 @@ add-result-2 : tie.Need-add-result-2
 add-result-2 c = search needs
 
 returns-2 : tie.Need-returns-2
-returns-2 c = lines-offset _ _ (sym (c .before .before .before .before .before .exempt .ensures) ∙ c .before .before .before .before .if1 .left)
+returns-2 c = lines-offset _ _ (sym (c .before .before .before .before .before .exempt .ensures) ∙ c .before .before .before .before .if1 .left) _ _ (c .before .before .before .file-offset .ensures) (c .before .file-offset2 .ensures)
 
 pub lines-up-spec : {M : Type 1} → statement M
 lines-up-spec =
     tie.close
-    (tie.spec exempt-requires returns cast-result add-result cast-result-2 add-result-2 returns-2)
+    (tie.spec
+    exempt-requires
+    returns
+    file-offset-requires
+    cast-result
+    add-result
+    file-offset-requires-2
+    cast-result-2
+    add-result-2
+    returns-2)

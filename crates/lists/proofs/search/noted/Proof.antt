@@ -1,6 +1,6 @@
 -- `lists::search::noted` meets its contract.
 -- Assumes nothing.
-use mathlib.Core.Path.{sym, _∙_}
+use mathlib.Core.Path.{refl, sym, _∙_}
 use borrow.Author.Tests.{not-true}
 use borrow.Author.Needs.{needs}
 use Rattle.lists.proofs.Scanning.{noted-apart, noted-touching}
@@ -25,8 +25,24 @@ note-requires-2 c κs = search needs
 note-requires-3 : tie.Need-note-requires-3
 note-requires-3 c κs = search needs
 
+note-requires-4 : tie.Need-note-requires-4
+note-requires-4 c κs = search needs
+
+note-requires-5 : tie.Need-note-requires-5
+note-requires-5 c κs = search needs
+
 returns-2 : tie.Need-returns-2
-returns-2 c = noted-touching _ _ _ _ _ _ (c .before .before .before .hits .result) _ _ _ (c .before .before .before .hits .ensures) (c .before .before .note .ensures) (c .before .note2 .ensures) (c .note3 .ensures)
+returns-2 c =
+    let h = c .before .before .before .before .before .hits in
+    noted-touching _ _ _ _ _ _ (h .result) _ (h .ensures)
+    (record {
+      ordered = refl;
+      conflict = c .before .before .before .before .note .ensures;
+      before = c .before .before .before .note2 .ensures;
+      after = c .before .before .note3 .ensures;
+      aligned = c .before .note4 .ensures;
+      containing = c .note5 .ensures;
+    })
 
 pub noted-spec : {M : Type 1} → statement M
 noted-spec =
@@ -38,4 +54,6 @@ noted-spec =
     note-requires
     note-requires-2
     note-requires-3
+    note-requires-4
+    note-requires-5
     returns-2)

@@ -48,7 +48,7 @@ returns c =
     let b = now (c .before .before .before .before .before .before .args .list) in
     let q = c .before .before .before .loop in
     let t = c .before .before .loop-test .taken in
-    scan-bad _ _ _ _ _ _ (q .inv .1 ∙ order-stops b (q .i) (q .prev) (q .r) t (q .inv .3 t) (sym (c .before .passes .ensures) ∙ not-true _ (c .if2 .taken)))
+    scan-bad _ _ _ _ (q .inv .1 ∙ order-stops b (q .i) (q .prev) (q .r) t (q .inv .3 t) (sym (c .before .passes .ensures) ∙ not-true _ (c .if2 .taken))) refl
 
 noted-requires : tie.Need-noted-requires Inv-loop μ-loop
 noted-requires c κs =

@@ -6,7 +6,7 @@ use mathlib.Core.Path.{sym, _∙_}
 use lib.ListN.{length}
 use denote.Ref.{now}
 use Rattle.codec.specs.Records.{recordsOf, rmaps}
-use Rattle.lists.specs.RmapPlans.{seat}
+use Rattle.lists.specs.inner.Searches.{seat}
 use Rattle.lists.proofs.Scanning.{seat-within, seat-low, seat-high}
 use borrow.Author.Needs.{needs}
 use Rattle.lists.proofs.search.seat.Statement.{statement}

@@ -5,47 +5,24 @@ use borrow.Author.Needs.{needs}
 use Rattle.lists.proofs.search.touches.Statement.{statement}
 use Rattle.lists.proofs.search.touches.Tie as tie
 
+end-requires : tie.Need-end-requires
+end-requires c κs = search needs
+
 cast-if1 : tie.Need-cast-if1
 cast-if1 c = search needs
 
-cast-if1-2 : tie.Need-cast-if1-2
-cast-if1-2 c = search needs
-
-add-if1 : tie.Need-add-if1
-add-if1 c = search needs
-
-cast-if1-3 : tie.Need-cast-if1-3
-cast-if1-3 c = search needs
-
 returns : tie.Need-returns
-returns c = touches-below _ _ (c .if1 .taken)
+returns c = touches-below _ _ (search needs)
 
 cast-result : tie.Need-cast-result
 cast-result c = search needs
 
-cast-result-2 : tie.Need-cast-result-2
-cast-result-2 c = search needs
-
-cast-result-3 : tie.Need-cast-result-3
-cast-result-3 c = search needs
-
-add-result : tie.Need-add-result
-add-result c = search needs
+end-requires-2 : tie.Need-end-requires-2
+end-requires-2 c κs = search needs
 
 returns-2 : tie.Need-returns-2
-returns-2 c = touches-from _ _ (c .before .before .before .if1 .left)
+returns-2 c = touches-from _ _ (search needs) _ (c .end2 .ensures)
 
 pub touches-spec : {M : Type 1} → statement M
 touches-spec =
-    tie.close
-    (tie.spec
-    cast-if1
-    cast-if1-2
-    add-if1
-    cast-if1-3
-    returns
-    cast-result
-    cast-result-2
-    cast-result-3
-    add-result
-    returns-2)
+    tie.close (tie.spec end-requires cast-if1 returns cast-result end-requires-2 returns-2)

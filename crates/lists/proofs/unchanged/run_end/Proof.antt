@@ -9,20 +9,21 @@ use borrow.Author.Tests.{not-false}
 use denote.Ref.{now}
 use Rattle.codec.specs.Records.{recordsOf, refcounts}
 use Rattle.codec.specs.declared.refcount.Refcount.{Refcount}
-use Rattle.lists.specs.Staying.{AllStay, part}
+use Rattle.lists.specs.Splice.{between}
+use Rattle.lists.specs.inner.Staying.{AllStay}
 use Rattle.lists.proofs.Passing.{next}
 use Rattle.lists.proofs.Staying.{stay-start, stay-next, stay-done}
 use Rattle.lists.proofs.unchanged.run_end.Statement.{statement}
 use Rattle.lists.proofs.unchanged.run_end.Tie as tie
 
 abbrev Inv-loop : tie.InvT-loop
-Inv-loop counts i stop owners s high n j₀ last₀ held₀ j last held =
+Inv-loop counts i stop owners s high n j₀ last-stop₀ last-owners₀ j last-stop last-owners =
     (i ≤ j)
     × (j ≤ length counts / 12)
-    × ((l : List Refcount) → AllStay last held s high l → AllStay stop owners s high (part (recordsOf refcounts counts) i j ++ l))
+    × ((l : List Refcount) → AllStay last-stop last-owners s high l → AllStay stop owners s high (between (recordsOf refcounts counts) i j ++ l))
 
 abbrev μ-loop : tie.MeasureT-loop
-μ-loop counts i stop owners s high n j₀ last₀ held₀ j last held = length counts / 12 - j
+μ-loop counts i stop owners s high n j₀ last-stop₀ last-owners₀ j last-stop last-owners = length counts / 12 - j
 
 loop-holds : tie.Need-loop-holds Inv-loop μ-loop
 loop-holds c = let a = c .before .args in (omega arith, c .before .pre, stay-start (recordsOf refcounts (now (a .counts))) (a .i) (a .stop) (a .owners) (a .s) (a .high))
@@ -39,16 +40,16 @@ stays-requires c κs = search needs
 returns : tie.Need-returns Inv-loop μ-loop
 returns c = let a = c .before .before .before .before .before .before .args in
     let l = c .before .before .before .before .loop in
-    ((l .inv .0, l .inv .1), stay-done (recordsOf refcounts (now (a .counts))) (a .i) (a .stop) (a .owners) (a .s) (a .high) (l .j) (l .last) (l .held) (l .inv .2))
+    ((l .inv .0, l .inv .1), stay-done (recordsOf refcounts (now (a .counts))) (a .i) (a .stop) (a .owners) (a .s) (a .high) (l .j) (l .last-stop) (l .last-owners) (l .inv .2))
 
-cast-last : tie.Need-cast-last Inv-loop μ-loop
-cast-last c = search needs
+cast-last-stop : tie.Need-cast-last-stop Inv-loop μ-loop
+cast-last-stop c = search needs
 
-cast-last-2 : tie.Need-cast-last-2 Inv-loop μ-loop
-cast-last-2 c = search needs
+cast-last-stop-2 : tie.Need-cast-last-stop-2 Inv-loop μ-loop
+cast-last-stop-2 c = search needs
 
-add-last : tie.Need-add-last Inv-loop μ-loop
-add-last c = search needs
+add-last-stop : tie.Need-add-last-stop Inv-loop μ-loop
+add-last-stop c = search needs
 
 add-j : tie.Need-add-j Inv-loop μ-loop
 add-j c = omega arith
@@ -63,14 +64,14 @@ loop-again c = let a = c .before .before .before .before .before .before .before
     let d = c .before .before .before .before .decode in (
       omega arith,
       omega (arith, c .before .before .before .before .before .loop-test .taken),
-      stay-next (recordsOf refcounts b) (a .i) (a .stop) (a .owners) (a .s) (a .high) (l .j) (l .last) (l .held) (l .inv .2) (d .result) _ (l .inv .0)
+      stay-next (recordsOf refcounts b) (a .i) (a .stop) (a .owners) (a .s) (a .high) (l .j) (l .last-stop) (l .last-owners) (l .inv .2) (d .result) _ (l .inv .0)
           (next b (l .j) (d .result) (c .before .before .before .before .before .loop-test .taken) (d .ensures)) (c .before .before .before .stays .ensures (not-false _ (c .before .before .if1 .left))),
     )
 
 returns-2 : tie.Need-returns-2 Inv-loop μ-loop
 returns-2 c = let a = c .before .before .before .args in
     let l = c .before .loop in
-    ((l .inv .0, l .inv .1), stay-done (recordsOf refcounts (now (a .counts))) (a .i) (a .stop) (a .owners) (a .s) (a .high) (l .j) (l .last) (l .held) (l .inv .2))
+    ((l .inv .0, l .inv .1), stay-done (recordsOf refcounts (now (a .counts))) (a .i) (a .stop) (a .owners) (a .s) (a .high) (l .j) (l .last-stop) (l .last-owners) (l .inv .2))
 
 pub run-end-spec : {M : Type 1} → statement M
 run-end-spec =
@@ -83,9 +84,9 @@ run-end-spec =
     decode-requires
     stays-requires
     returns
-    cast-last
-    cast-last-2
-    add-last
+    cast-last-stop
+    cast-last-stop-2
+    add-last-stop
     add-j
     loop-less
     loop-again

@@ -2,7 +2,7 @@
 -- Assumes nothing.
 use mathlib.Core.Path.{ap, sym, _∙_}
 use denote.Ref.{now}
-use Rattle.plan_text.specs.Answer.{number, named}
+use Rattle.plan_text.specs.inner.Readings.{number, named}
 use Rattle.plan_text.proofs.LineLaws.{request-name, request-size, request-count, request-done}
 use borrow.Author.Needs.{needs}
 use Rattle.plan_text.proofs.line.request_of.Statement.{statement}

@@ -9,8 +9,8 @@ use lib.ListN.{length, take}
 use denote.Ref.{now}
 use Rattle.codec.specs.Bytes.{withBytes}
 use Rattle.trees.specs.Plan.{sum}
-use Rattle.plan_text.specs.Text.{blocksWord, numberLine}
-use Rattle.plan_text.proofs.TextLaws.{text-few, text-geometry, text-levels, text-plan, text-total, length-plan, plan-done}
+use Rattle.plan_text.specs.Text.{blocksWord, numberLine, refusedLine}
+use Rattle.plan_text.proofs.TextLaws.{text-few, text-refused, text-plan, text-total, length-plan, plan-done}
 use borrow.Author.Needs.{needs}
 use Rattle.plan_text.proofs.text.put_plan.Statement.{statement}
 use Rattle.plan_text.proofs.text.put_plan.Tie as tie
@@ -18,17 +18,26 @@ use Rattle.plan_text.proofs.text.put_plan.Tie as tie
 plan-requires : tie.Need-plan-requires
 plan-requires c κs = search needs
 
-enum-told : tie.Need-enum-told
-enum-told c = search needs
+enum-known-answer : tie.Need-enum-known-answer
+enum-known-answer c = search needs
 
 slice-aggregate-put-line : tie.Need-slice-aggregate-put-line
 slice-aggregate-put-line c = search needs
 
+told-requires : tie.Need-told-requires
+told-requires c κs = search needs
+
+cast-put-line : tie.Need-cast-put-line
+cast-put-line c = search needs
+
 put-line-requires : tie.Need-put-line-requires
 put-line-requires c κs = search needs
 
-enum-told-2 : tie.Need-enum-told-2
-enum-told-2 c = search needs
+enum-known-answer-2 : tie.Need-enum-known-answer-2
+enum-known-answer-2 c = search needs
+
+put-levels-requires : tie.Need-put-levels-requires
+put-levels-requires c κs = (text-few _ _ (c .before .before .before .before .before .plan .ensures) _ (c .before .before .before .answer2 .given .1), omega (arith, c .before .before .before .before .before .before .before .pre))
 
 slice-aggregate-put-line-2 : tie.Need-slice-aggregate-put-line-2
 slice-aggregate-put-line-2 c = search needs
@@ -36,25 +45,13 @@ slice-aggregate-put-line-2 c = search needs
 put-line-requires-2 : tie.Need-put-line-requires-2
 put-line-requires-2 c κs = search needs
 
-enum-known-answer : tie.Need-enum-known-answer
-enum-known-answer c = search needs
-
-put-levels-requires : tie.Need-put-levels-requires
-put-levels-requires c κs = (text-few _ _ (c .before .before .before .before .before .plan .ensures) _ (c .before .before .before .answer .given .1), omega (arith, c .before .before .before .before .before .before .before .pre))
-
-slice-aggregate-put-line-3 : tie.Need-slice-aggregate-put-line-3
-slice-aggregate-put-line-3 c = search needs
-
-put-line-requires-3 : tie.Need-put-line-requires-3
-put-line-requires-3 c κs = search needs
-
 same-length : tie.Need-same-length
 same-length c = search needs
 
 returns : tie.Need-returns
 returns c =
-    let a = c .before .before .before .before .before .before .before .before .before .args in
-    let t = text-geometry _ _ (c .before .before .before .before .before .before .before .plan .ensures) (c .before .before .before .before .before .enum-told .given .1) in
+    let a = c .before .before .before .before .before .before .before .before .before .before .before .before .args in
+    let t = text-refused _ _ (c .before .before .before .before .before .before .before .before .before .before .plan .ensures) _ (c .before .before .before .before .before .before .before .before .answer .given .1) ∙ ap refusedLine (sym (c .before .before .before .before .told .ensures .0)) in
     ((c .before .before .put-line .ensures .0 .0 ∙ zero-add _ ∙ ap length (sym t), omega (arith, c .before .before .put-line .ensures .0 .1)), c .before .before .put-line .ensures .1 ∙ ap (withBytes (now (a .out)) 0) (sym t))
 
 same-length-2 : tie.Need-same-length-2
@@ -62,23 +59,14 @@ same-length-2 c = search needs
 
 returns-2 : tie.Need-returns-2
 returns-2 c =
-    let a = c .before .before .before .before .before .before .before .before .before .args in
-    let t = text-levels _ _ (c .before .before .before .before .before .before .before .plan .ensures) (c .before .before .before .before .before .enum-told2 .given .1) in
-    ((c .before .before .put-line2 .ensures .0 .0 ∙ zero-add _ ∙ ap length (sym t), omega (arith, c .before .before .put-line2 .ensures .0 .1)), c .before .before .put-line2 .ensures .1 ∙ ap (withBytes (now (a .out)) 0) (sym t))
-
-same-length-3 : tie.Need-same-length-3
-same-length-3 c = search needs
-
-returns-3 : tie.Need-returns-3
-returns-3 c =
     let a = c .before .before .before .before .before .before .before .before .before .before .before .before .before .before .before .args in
     let is = c .before .before .before .before .before .before .before .before .before .before .before .before .before .plan .ensures in
-    let e = c .before .before .before .before .before .before .before .before .before .before .before .answer .given .1 in
-    let n = c .before .before .before .before .before .before .before .before .before .before .before .answer .given .0 .0 in
+    let e = c .before .before .before .before .before .before .before .before .before .before .before .answer2 .given .1 in
+    let n = c .before .before .before .before .before .before .before .before .before .before .before .answer2 .given .0 .0 in
     let levels : List ℕ = take n (c .before .before .before .before .before .before .before .before .before .before .before .before .before .plan .result .blocks) in
     let t = text-plan _ _ is n e in
     let p = c .before .before .before .before .before .before .before .put-levels in
-    let q = c .before .before .put-line3 in
+    let q = c .before .before .put-line2 in
     let s = text-total _ _ is n e in
     let long = length-plan levels in
     let same : length (numberLine blocksWord (c .before .before .before .before .before .before .before .before .before .before .before .before .before .plan .result .total)) ≡ length (numberLine blocksWord (sum levels)) =
@@ -93,19 +81,16 @@ put-plan-spec =
     tie.close
     (tie.spec
     plan-requires
-    enum-told
+    enum-known-answer
     slice-aggregate-put-line
+    told-requires
+    cast-put-line
     put-line-requires
-    enum-told-2
+    enum-known-answer-2
+    put-levels-requires
     slice-aggregate-put-line-2
     put-line-requires-2
-    enum-known-answer
-    put-levels-requires
-    slice-aggregate-put-line-3
-    put-line-requires-3
     same-length
     returns
     same-length-2
-    returns-2
-    same-length-3
-    returns-3)
+    returns-2)

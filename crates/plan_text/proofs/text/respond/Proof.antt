@@ -6,7 +6,7 @@ use native.Mathlib.Omega.{arith}
 use lib.ListN.{length}
 use denote.Ref.{now}
 use Rattle.codec.specs.Bytes.{withBytes}
-use Rattle.plan_text.specs.Answer.{asked}
+use Rattle.plan_text.specs.inner.Readings.{asked}
 use Rattle.plan_text.proofs.TextLaws.{answer-other, answer-plan, answer-large, put-short, put-long}
 use borrow.Author.Needs.{needs}
 use Rattle.plan_text.proofs.text.respond.Statement.{statement}

@@ -8,7 +8,7 @@ use lib.ListN.{length, getD, take}
 use lib.Seq.{take-length}
 use denote.Ref.{now}
 use Rattle.codec.specs.Bytes.{withBytes, beBytes}
-use Rattle.trees.specs.BuildNeeds.{pointerBytes}
+use Rattle.trees.specs.inner.BuildNeeds.{pointerBytes}
 use Rattle.trees.proofs.NodeWriting.{pointer-none, pointer-next}
 use borrow.Author.Needs.{needs}
 use Rattle.trees.proofs.build.put_pointers.Statement.{statement}

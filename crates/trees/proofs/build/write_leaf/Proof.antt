@@ -5,9 +5,10 @@ use mathlib.Core.Path.{ap, _∙_}
 use mathlib.Core.List.{List}
 use denote.Ref.{now}
 use Rattle.codec.specs.Bytes.{withBytes}
+use Rattle.blocks.specs.Geometry.{nullAgBlock}
 use Rattle.blocks.specs.Stamp.{stamped}
 use Rattle.blocks.specs.Tree.{headerLen}
-use Rattle.trees.specs.BuildCall.{noSibling}
+use Rattle.trees.specs.BuildCall.{}
 use Rattle.trees.proofs.Writing.{leaf-fresh}
 use borrow.Author.Needs.{needs}
 use Rattle.trees.proofs.build.write_leaf.Statement.{statement}
@@ -16,8 +17,8 @@ use Rattle.trees.proofs.build.write_leaf.Tie as tie
 header-len-requires : tie.Need-header-len-requires
 header-len-requires c κs = search needs
 
-clear8-requires : tie.Need-clear8-requires
-clear8-requires c κs = search needs
+zero8-requires : tie.Need-zero8-requires
+zero8-requires c κs = search needs
 
 copy-requires : tie.Need-copy-requires
 copy-requires c κs = search needs
@@ -34,12 +35,12 @@ returns c =
     let a = st .args in
     let h = c .before .before .before .before .before .before .before .before .before .before .before .before .header-len in
     c .before .before .stamp .ensures
-    ∙ ap (stamped (a .g) (a .kind) (a .number) 0 (a .count) noSibling noSibling)
+    ∙ ap (stamped (a .g) (a .kind) (a .number) 0 (a .count) nullAgBlock nullAgBlock)
     (c .before .before .before .before .before .before .copy .ensures
-    ∙ ap (λ (x : List ℕ). withBytes x (h .result) (now (a .records))) (c .before .before .before .before .before .before .before .before .before .before .clear8 .ensures)
+    ∙ ap (λ (x : List ℕ). withBytes x (h .result) (now (a .records))) (c .before .before .before .before .before .before .before .before .before .before .zero8 .ensures)
     ∙ leaf-fresh (now (a .b)) (now (a .records)) (a .g .blocksize) (headerLen (a .g .version)) (h .result) (st .pre .1 .0) (h .ensures) (st .pre .1 .1))
 
 pub write-leaf-spec : {M : Type 1} → statement M
 write-leaf-spec =
     tie.close
-    (tie.spec header-len-requires clear8-requires copy-requires stamp-requires same-length returns)
+    (tie.spec header-len-requires zero8-requires copy-requires stamp-requires same-length returns)

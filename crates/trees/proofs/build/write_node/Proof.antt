@@ -7,12 +7,13 @@ use native.Mathlib.Omega.{arith}
 use lib.ListN.{length, length-replicate}
 use denote.Ref.{now}
 use Rattle.codec.specs.Bytes.{withBytes}
+use Rattle.blocks.specs.Geometry.{nullAgBlock}
 use Rattle.blocks.specs.Stamp.{stamped}
 use Rattle.blocks.proofs.Laws.{blocksize-within}
 use Rattle.trees.specs.Build.{keysOf}
-use Rattle.trees.specs.BuildCall.{keysUnder, noSibling}
-use Rattle.trees.specs.BuildNeeds.{levelChildren, pointerBytes}
-use Rattle.trees.proofs.TreeKinds.{header-is}
+use Rattle.trees.specs.BuildCall.{keysUnder}
+use Rattle.trees.specs.inner.BuildNeeds.{levelChildren, pointerBytes}
+use Rattle.trees.proofs.TreeKinds.{header-within}
 use Rattle.trees.proofs.NodesWriting.{NodeRoom, node-room}
 use borrow.Author.Needs.{needs}
 use Rattle.trees.proofs.build.write_node.Statement.{statement}
@@ -28,7 +29,7 @@ room-at e =
     (e .before .before .before .header-len .result) (e .before .entry-len .result) (e .keys-len .result) (st .pre) (e .before .before .before .header-len .ensures) (e .before .entry-len .ensures) (e .keys-len .ensures)
 
 header-in : (e : tie.After-header-len) → e .header-len .result ≤ e .before .before .before .before .before .args .g .blocksize
-header-in e = omega (arith, e .header-len .ensures, header-is (e .before .before .before .before .before .args .g) (e .before .before .before .before .before .args .kind) (e .before .before .before .before .before .pre .given .ok) (e .before .before .before .before .before .pre .given .tree), blocksize-within (e .before .before .before .before .before .args .g) (e .before .before .before .before .before .pre .given .ok) .0)
+header-in e = omega (arith, e .header-len .ensures, header-within (e .before .before .before .before .before .args .g) (e .before .before .before .before .before .args .kind) (e .before .before .before .before .before .pre .given .ok) (e .before .before .before .before .before .pre .given .tree), blocksize-within (e .before .before .before .before .before .args .g) (e .before .before .before .before .before .pre .given .ok) .0)
 
 header-len-requires : tie.Need-header-len-requires
 header-len-requires c κs = search needs
@@ -48,14 +49,14 @@ div-most c = search needs
 keys-len-requires : tie.Need-keys-len-requires
 keys-len-requires c κs = search needs
 
-clear8-requires : tie.Need-clear8-requires
-clear8-requires c κs = search needs
+zero8-requires : tie.Need-zero8-requires
+zero8-requires c κs = search needs
 
 put-all-keys-requires : tie.Need-put-all-keys-requires
 put-all-keys-requires c κs =
     let st = c .before .before .before .before .before .before .before .before .before .before .before .before .before in
     let r = room-at (c .before .before .before .before .before) in
-    (st .pre .children, omega (arith, r .keys-in, st .pre .long, ap length (c .before .before .before .clear8 .ensures), length-replicate {A = ℕ} (length (now (st .args .b))) 0))
+    (st .pre .children, omega (arith, r .keys-in, st .pre .long, ap length (c .before .before .before .zero8 .ensures), length-replicate {A = ℕ} (length (now (st .args .b))) 0))
 
 -- a write at the same place
 moved : (x y bs : List ℕ) (at far : ℕ) → y ≡ withBytes x at bs → at ≡ far → y ≡ withBytes x far bs
@@ -69,10 +70,10 @@ returns c =
     let far = h .result + (a .g .blocksize - h .result) / c .before .before .before .before .before .before .before .before .before .before .before .before .before .before .before .before .before .entry-len .result * c .before .before .before .before .before .before .before .before .before .before .before .before .before .before .before .before .keys-len .result in
     let cs = levelChildren (a .kind) (now (a .list)) (now (a .levels)) (a .level) (a .child) (now (a .below)) in
     c .before .before .stamp .ensures
-    ∙ ap (stamped (a .g) (a .kind) (a .number) (a .level + 1) (length (now (a .below))) noSibling noSibling)
+    ∙ ap (stamped (a .g) (a .kind) (a .number) (a .level + 1) (length (now (a .below))) nullAgBlock nullAgBlock)
     (moved _ _ (pointerBytes (now (a .below))) _ far (c .before .before .before .before .before .before .put-pointers .ensures) (omega arith)
     ∙ ap (λ (x : List ℕ). withBytes x far (pointerBytes (now (a .below))))
-    (c .before .before .before .before .before .before .before .before .before .before .put-all-keys .ensures ∙ ap (λ (x : List ℕ). withBytes x (h .result) (keysOf (keysUnder (a .kind)) cs)) (c .before .before .before .before .before .before .before .before .before .before .before .before .before .before .clear8 .ensures)))
+    (c .before .before .before .before .before .before .before .before .before .before .put-all-keys .ensures ∙ ap (λ (x : List ℕ). withBytes x (h .result) (keysOf (keysUnder (a .kind)) cs)) (c .before .before .before .before .before .before .before .before .before .before .before .before .before .before .zero8 .ensures)))
     ∙ room-at (c .before .before .before .before .before .before .before .before .before .before .before .before .before .before .before .before) .made (a .number)
 
 mul-put-pointers : tie.Need-mul-put-pointers
@@ -111,7 +112,7 @@ write-node-spec =
     entry-len-requires
     div-most
     keys-len-requires
-    clear8-requires
+    zero8-requires
     put-all-keys-requires
     mul-put-pointers
     add-put-pointers

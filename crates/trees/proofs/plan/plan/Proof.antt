@@ -7,8 +7,8 @@ use mathlib.Core.Path.{_≡_, refl, sym, _∙_}
 use mathlib.Core.Bool.{true, false}
 use Rattle.blocks.specs.Geometry.{geometryOk}
 use Rattle.trees.specs.Plan.{levelsOf, sum}
-use Rattle.trees.specs.Walk.{perLeaf, perNode}
-use Rattle.trees.specs.Shapes.{shapeOf}
+use Rattle.walks.specs.Walk.{perLeaf, perNode}
+use Rattle.walks.specs.Shapes.{shapeOf}
 use Rattle.trees.proofs.PlanLaws.{plan-few, plan-many}
 use Rattle.trees.proofs.plan.plan.Statement.{statement}
 use Rattle.trees.proofs.plan.plan.Tie as tie

@@ -1,20 +1,10 @@
--- `blocks::kind::TreeKind::entry_len` meets its contract: by the kind.
+-- `blocks::kind::TreeKind::entry_len` meets its contract: the keys' length leaves room for a pointer.
 -- Assumes nothing.
+use native.Mathlib.Omega.{arith}
 use borrow.Author.Needs.{needs}
+use Rattle.blocks.proofs.Laws.{place-most}
 use Rattle.blocks.proofs.kind.TreeKind.entry_len.Statement.{statement}
 use Rattle.blocks.proofs.kind.TreeKind.entry_len.Tie as tie
 
-enum-told : tie.Need-enum-told
-enum-told c = search needs
-
-enum-told-2 : tie.Need-enum-told-2
-enum-told-2 c = search needs
-
-returns : tie.Need-returns
-returns c = rw (c .enum-told .given .1)
-
-returns-2 : tie.Need-returns-2
-returns-2 c = rw (c .enum-told2 .given .1)
-
 pub entry-len-spec : {M : Type 1} → statement M
-entry-len-spec = tie.close (tie.spec enum-told enum-told-2 returns returns-2)
+entry-len-spec = tie.close (tie.spec (λ c κs. search needs) (λ c. omega (arith, c .keys-len .ensures, place-most (c .before .args .self) 1)) (λ c. cc))

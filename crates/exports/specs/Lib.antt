@@ -1,4 +1,0 @@
-pub mod Interface
-pub mod TreeCalls
-pub mod WalkFigures
-pub mod ListCalls

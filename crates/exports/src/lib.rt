@@ -1,9 +1,0 @@
-// The library as C and Rust call it: functions on numbers and slices alone. A slice passes as a pointer and a length. Each call but the two of
-// CRC32C, which answer the CRC, answers 0 where it was done, else the number of the refusal (docs/QUESTIONS.md); one that is lent `said` puts four figures
-// there. None asks anything of its caller.
-mod answers;
-pub mod block_calls;
-mod given;
-pub mod list_calls;
-mod refusals;
-pub mod tree_calls;

@@ -1,0 +1,2 @@
+-- What the calls that edit lists say and leave.
+pub mod ListCalls

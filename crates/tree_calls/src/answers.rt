@@ -1,0 +1,93 @@
+// What a call on a list, a block or a tree says of each answer.
+ghost use mathlib.Core.Path.{_≡_};
+ghost use mathlib.Core.List.{List};
+ghost use Prim.Native.Nat.{ℕ};
+ghost use Rattle.codec.specs.Question.{Outcome};
+ghost use Rattle.codec.specs.ListRefusal.{listOutcome};
+ghost use Rattle.blocks.specs.Refusal.{checkedOutcome};
+ghost use Rattle.walks.specs.WalkAnswer.{walkedReport};
+ghost use Rattle.trees.specs.PlanAnswer.{PlanIs};
+ghost use Rattle.trees.specs.BuildAnswer.{builtOutcome};
+ghost use Rattle.interface.specs.Interface.{numberOf, Says};
+ghost use Rattle.tree_calls.specs.TreeCalls.{headerFigures, planFigures, buildFigures};
+ghost use Rattle.tree_calls.specs.WalkFigures.{Reports};
+use blocks::check::Checked;
+use codec::check::ListChecked;
+use interface::answer::Answer;
+use interface::answer::refused;
+use trees::build::Built;
+use trees::plan::PlanAnswer;
+use trees::plan::Planned;
+use walks::walk::Walked;
+
+pub(crate) fn list_number(checked: ListChecked) -> u32
+    ensures { λ n. ⌜ n ≡ numberOf (listOutcome checked) ⌝ }
+{
+    match checked {
+        ListChecked::Accepted(_) => 0,
+        ListChecked::Refused(r) => {
+            let told = r.told();
+            told.number
+        }
+    }
+}
+
+pub(crate) fn checked_answer(checked: Checked) -> Answer
+    ensures { λ a. ⌜ Says headerFigures (checkedOutcome checked) (a .number) (a .figures) ⌝ }
+{
+    match checked {
+        Checked::Good(h) => Answer {
+            number: 0,
+            figures: [
+                h.level as u64,
+                h.numrecs as u64,
+                h.body as u64,
+                h.maxrecs as u64,
+            ],
+        },
+        Checked::Refused(r) => refused(r.told(), 0),
+    }
+}
+
+pub(crate) fn planned_answer(planned: Planned) -> Answer
+    ensures { λ a. ⌜ ((o : Outcome (List ℕ)) → PlanIs o planned → Says planFigures o (a .number) (a .figures)) ⌝ }
+{
+    let answer = planned.answer;
+    let total = planned.total;
+    match answer {
+        PlanAnswer::Levels(n) => Answer {
+            number: 0,
+            figures: [n as u64, total, 0, 0],
+        },
+        PlanAnswer::Refused(r) => refused(r.told(), 0),
+    }
+}
+
+pub(crate) fn walked_answer(walked: Walked) -> Answer
+    ensures { λ a. ⌜ Reports (walkedReport walked) (a .number) (a .figures) ⌝ }
+{
+    match walked {
+        Walked::Read {
+            visits,
+            records,
+            bytes,
+        } => Answer {
+            number: 0,
+            figures: [visits as u64, records as u64, bytes as u64, 0],
+        },
+        Walked::Refused { refusal, visits } => refused(refusal.told(), visits as u64),
+    }
+}
+
+// Of so many blocks.
+pub(crate) fn built_answer(built: Built, blocks: usize) -> Answer
+    ensures { λ a. ⌜ Says (buildFigures blocks) (builtOutcome built) (a .number) (a .figures) ⌝ }
+{
+    match built {
+        Built::Done(n) => Answer {
+            number: 0,
+            figures: [blocks as u64, n as u64, 0, 0],
+        },
+        Built::Refused(r) => refused(r.told(), 0),
+    }
+}

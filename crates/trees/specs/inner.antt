@@ -1,0 +1,3 @@
+pub mod LevelPlans
+pub mod BuildSteps
+pub mod BuildNeeds

@@ -1,0 +1,14 @@
+pub mod LevelLaws
+pub mod StackLaws
+pub mod WalkLaws
+pub mod RunLaws
+pub mod LookLaws
+pub mod VisitLaws
+pub mod DescendLaws
+pub mod PathLaws
+pub mod CallLaws
+pub mod ForestLaws
+pub mod WalkMeaning
+pub mod WalkReasons
+pub mod FinishedWalks
+pub mod Steps

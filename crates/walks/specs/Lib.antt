@@ -1,0 +1,9 @@
+-- In reading order: a walk over any way to look at a block, the look at a block of a group, what a call comes to and leaves, and what a walk means. `inner` is what
+-- the functions of this crate promise one another: no other crate names it.
+pub mod Memory
+pub mod Walk
+pub mod Shapes
+pub mod WalkCall
+pub mod WalkAnswer
+pub mod Forest
+pub mod inner

@@ -1,0 +1,102 @@
+-- How a walk keeps its state in lent memory, what one visit does to it, and what the steps of a walk promise one another.
+-- Assumes nothing.
+use Prim.Native.Nat.{ℕ, _+_, _-_, _*_, _/_, _%_, _^_, _≤_}
+use mathlib.Core.Path.{_≡_}
+use mathlib.Core.List.{List, [], _∷_}
+use mathlib.Core.Bool.{Bool, true, _&&_}
+use lib.ListN.{length, take}
+use lib.Dec.{ltb, leb}
+use Rattle.codec.specs.Bytes.{withBytes}
+use Rattle.codec.specs.Question.{Outcome, done, refused, ask, answer}
+use Rattle.blocks.specs.declared.geometry.Geometry.{Geometry}
+use Rattle.blocks.specs.declared.kind.TreeKind.{TreeKind}
+use Rattle.blocks.specs.Geometry.{geometryOk}
+use Rattle.walks.specs.declared.visit.Count.{Count}
+use Rattle.walks.specs.declared.visit.Step.{Step}
+use Rattle.walks.specs.declared.visit.Step.the-variants.{Next, Stop}
+use Rattle.walks.specs.declared.walk.Walked.{Walked}
+use Rattle.walks.specs.declared.walk.Walked.the-variants.{Read, Refused}
+use Rattle.walks.specs.declared.walk.First.{First}
+use Rattle.walks.specs.declared.walk.First.the-variants as first
+use Rattle.walks.specs.Walk.{Visit, visitOf, Look, bad, good, Trace, visits, records, atLevel}
+use Rattle.walks.specs.WalkCall.{walkQuestions}
+use Rattle.walks.specs.WalkAnswer.{walkNumber, walkValues}
+
+-- a visit in one place of the level scratch, and back
+abbrev pub levelStep : ℕ
+levelStep = 2 ^ 32
+
+abbrev pub placeOf : Visit → ℕ
+placeOf v = v .level * levelStep + v .block
+
+abbrev pub visitAt : ℕ → Visit
+visitAt p = visitOf (p % levelStep) (p / levelStep)
+
+unfoldable pub seenOf : List ℕ → List Visit
+seenOf [] = []
+seenOf (p ∷ ps) = visitAt p ∷ seenOf ps
+
+-- the blocks of one level among the visits in places of the level scratch
+abbrev pub levelIn : ℕ → List ℕ → List ℕ
+levelIn level ps = atLevel level (seenOf ps)
+
+-- the counts after a block was read
+abbrev pub nextOf : Count → List ℕ → Count
+nextOf c bytes = record { visits = c .visits + 1; bytes = c .bytes + length bytes }
+
+-- a visit: the counts after it, or its refusal
+abbrev pub stepOutcome : Step → Outcome Count
+stepOutcome (Next c) = done c
+stepOutcome (Stop r) = refused (walkNumber r) (walkValues r)
+
+-- the counts after a look at a block, or its refusal: 15 asks about the places of the block list and the bytes of the record list
+unfoldable pub stepOf : ℕ → ℕ → Count → Look → Outcome Count
+stepOf places room c (bad n x) = refused n x
+stepOf places room c (good below bytes) =
+    answer (ask 15 (ltb (c .visits) places && leb (length bytes) (room - c .bytes)) ∷ []) (done (nextOf c bytes))
+
+-- what a visit asks of the lent memory: a place of the level scratch for each of the block list's
+pub record Fitting (scratch out : List ℕ) (places : ℕ) (c : Count) : Type 0 where
+  pub noting : places ≤ length scratch
+  pub stored : c .bytes ≤ length out
+
+-- l with xs put at a place where the visit was accepted, else l as it was
+abbrev pub onward : Outcome Count → List ℕ → ℕ → List ℕ → List ℕ
+onward (done m) l at xs = withBytes l at xs
+onward (refused n x) l at xs = l
+
+-- the bytes that a look finds
+abbrev pub bytesOf : Look → List ℕ
+bytesOf (bad n x) = []
+bytesOf (good below bytes) = bytes
+
+-- what a visit leaves in the level scratch and the record list
+pub record Wrote (o : Outcome Count) (v : Visit) (l : Look) (c : Count) (scratch scratch′ out out′ : List ℕ) : Type 0 where
+  pub noted : scratch′ ≡ onward o scratch (c .visits) (placeOf v ∷ [])
+  pub copied : out′ ≡ onward o out (c .bytes) (bytesOf l)
+
+-- what a walk that has read its last block leaves in the level scratch and the record list
+abbrev pub left : Walked → Trace → List ℕ → List ℕ → List ℕ → Type 0
+left (Read v n b) t scratch out out′ = (seenOf (take v scratch) ≡ visits t) × (out′ ≡ withBytes out 0 (records t))
+left (Refused r v) t scratch out out′ = Unit {0}
+
+-- what holds once 1, 11 and 12 are asked, of a stack and a level scratch of so many places: nine pairs lie on the stack
+pub record Begun (ok : Bool) (levels stack scratch places : ℕ) : Type 0 where
+  pub good : ok ≡ true
+  pub least : 1 ≤ levels
+  pub most : levels ≤ 9
+  pub deep : 18 ≤ stack
+  pub noting : places ≤ scratch
+
+-- 1, 11 and 12 come to a refusal, whatever follows them; or they hold
+pub record ReadyIs (g : Geometry) (kind : TreeKind) (levels stack scratch blocks : ℕ) : Type 0 where
+  pub holds : (bytes : ℕ) (o : Outcome Trace)
+      → answer (walkQuestions g kind levels (record { stack = stack; scratch = scratch; blocks = blocks; bytes = bytes })) o ≡ o
+  pub begun : Begun (geometryOk g) levels stack scratch blocks
+
+abbrev pub FirstIs : Geometry → TreeKind → (levels stack scratch blocks : ℕ) → First → Type 0
+FirstIs g kind levels stack scratch blocks (first.Refused r) =
+    (bytes : ℕ) (o : Outcome Trace)
+    → answer (walkQuestions g kind levels (record { stack = stack; scratch = scratch; blocks = blocks; bytes = bytes })) o
+    ≡ refused (walkNumber r) (walkValues r)
+FirstIs g kind levels stack scratch blocks first.Ready = ReadyIs g kind levels stack scratch blocks

@@ -1,0 +1,93 @@
+// The blocks that are due in a walk, kept as nine pairs: for each level a block and its next child. A node is not checked again when the walk comes back to
+// it: the image is lent for reading, so its count and pointers are still those that passed.
+ghost use mathlib.Core.Path.{_≡_};
+ghost use mathlib.Core.Bool.{true};
+ghost use Prim.Native.Nat.{_+_, _*_, _≤_, _<_};
+ghost use lib.ListN.{length};
+ghost use Rattle.blocks.specs.Geometry.{geometryOk};
+ghost use Rattle.walks.specs.Walk.{blockIn, perNode};
+ghost use Rattle.walks.specs.Shapes.{shapeOf};
+ghost use Rattle.walks.specs.inner.Path.{childAt, fanOf, every, dueIn, fanIn, Opened, withPair, lowOf, Advanced};
+use blocks::geometry::Geometry;
+use blocks::kind::PTR_LEN;
+use blocks::kind::TreeKind;
+use blocks::kind::block_capacity;
+use blocks::kind::header_len;
+use blocks::offsets::NUMRECS;
+use codec::endian::be16;
+use codec::endian::be32;
+
+// The next block due, or none.
+pub(crate) enum Next {
+    Block { block: u32, level: u32 },
+    Nothing,
+}
+
+// How many children a block says it has.
+fn fan(g: Geometry, image: &[u8], block: u32) -> usize
+    requires { ⌜ (geometryOk g ≡ true) × ((block + 1) * g .blocksize ≤ length (now image)) ⌝ }
+    ensures { λ r. ⌜ r ≡ fanOf (blockIn (g .blocksize) (now (image .entry)) block) ⌝ }
+{
+    let at = (block as usize) * (g.blocksize as usize);
+    be16(image, at + NUMRECS) as usize
+}
+
+// Its child i.
+fn child(g: Geometry, kind: TreeKind, image: &[u8], block: u32, i: usize) -> u32
+    requires { ⌜ (geometryOk g ≡ true) × ((block + 1) * g .blocksize ≤ length (now image)) × (i < perNode (shapeOf g kind)) ⌝ }
+    ensures { λ r. ⌜ r ≡ (childAt (shapeOf g kind) (blockIn (g .blocksize) (now (image .entry)) block) 0 i) .block ⌝ }
+{
+    let size = g.blocksize as usize;
+    let at = (block as usize) * size;
+    let most = block_capacity(kind, g.version, 1, size);
+    let keys = kind.keys_len();
+    let first = header_len(g.version) + most * keys;
+    be32(image, at + (first + i * PTR_LEN))
+}
+
+// A block's own pair, where it is a node; says the lowest level that has a pair.
+pub(crate) fn open(pairs: &mut [u32], block: u32, level: u32) -> u32
+    requires { ⌜ (18 ≤ length (now pairs)) × (level < 9) ⌝ }
+    ensures { λ r. ⌜ (r ≡ lowOf level) × (now (pairs .exit) ≡ withPair (now (pairs .entry)) block level) ⌝ }
+{
+    if level == 0 {
+        return 1;
+    }
+    let at = (level as usize) * 2;
+    pairs[at] = block;
+    pairs[at + 1] = 0;
+    level
+}
+
+// The next block due on the pairs from level `low` up, each pair's later children before those above it. Its parent's pair then has the child
+// after it.
+pub(crate) fn advance(
+    g: Geometry,
+    kind: TreeKind,
+    image: &[u8],
+    pairs: &mut [u32],
+    low: u32,
+    levels: u32,
+) -> Next
+    requires { ⌜ (geometryOk g ≡ true) × Opened (shapeOf g kind) (now image) (now pairs) low levels ⌝ }
+    ensures { λ r. ⌜ Advanced (dueIn every (shapeOf g kind) (now (image .entry))) (fanIn (g .blocksize) (now (image .entry))) r low levels
+        (now (pairs .entry)) (now (pairs .exit)) ⌝ }
+{
+    let mut level = low;
+    while level < levels {
+        let at = (level as usize) * 2;
+        let block = pairs[at];
+        let i = pairs[at + 1];
+        let n = fan(g, image, block);
+        if (i as usize) < n {
+            pairs[at + 1] = i + 1;
+            let b = child(g, kind, image, block, i as usize);
+            return Next::Block {
+                block: b,
+                level: level - 1,
+            };
+        }
+        level += 1;
+    }
+    Next::Nothing
+}

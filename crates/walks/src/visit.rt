@@ -1,0 +1,104 @@
+// A visit: a block that is due is looked at, noted and, if it is a leaf, copied.
+ghost use mathlib.Core.Path.{_≡_};
+ghost use mathlib.Core.Bool.{true};
+ghost use mathlib.Core.List.{_∷_, []};
+ghost use Prim.Native.Nat.{_≤_};
+ghost use lib.ListN.{length};
+ghost use Rattle.codec.specs.Question.{mapOutcome};
+ghost use Rattle.blocks.specs.Geometry.{geometryOk};
+ghost use Rattle.walks.specs.Walk.{visitOf, good, lookIn};
+ghost use Rattle.walks.specs.Shapes.{shapeOf};
+ghost use Rattle.walks.specs.WalkAnswer.{lookedOutcome};
+ghost use Rattle.walks.specs.inner.WalkState.{stepOutcome, stepOf, onward, Fitting, Wrote};
+use crate::by_level::LEVEL_STEP;
+use crate::look::Looked;
+use crate::look::look;
+use crate::refusal::WalkRefusal;
+use blocks::geometry::AgBlock;
+use blocks::geometry::Geometry;
+use blocks::kind::TreeKind;
+use codec::copy::copy;
+
+// The blocks read and the record bytes stored so far.
+pub(crate) struct Count {
+    pub(crate) visits: usize,
+    pub(crate) bytes: usize,
+}
+
+// The counts after a visit, or the refusal that ends the walk.
+pub(crate) enum Step {
+    Next(Count),
+    Stop(WalkRefusal),
+}
+
+// A block that passed the check: 15, then its visit is noted in one place of the level scratch and its records, if it is a leaf, go to the record list.
+fn enter(
+    bytes: &[u8],
+    place: u64,
+    scratch: &mut [u64],
+    out: &mut [u8],
+    places: usize,
+    c: Count,
+) -> Step
+    requires { ⌜ (places ≤ length (now scratch)) × (c .bytes ≤ length (now out)) ⌝ }
+    ensures { λ r. ⌜ stepOutcome r ≡ stepOf places (length (now (out .entry))) c (good [] (now (bytes .entry))) ⌝ }
+    ensures { λ r. ⌜ (now (scratch .exit) ≡ onward (stepOutcome r) (now (scratch .entry)) (c .visits) (place ∷ []))
+        × (now (out .exit) ≡ onward (stepOutcome r) (now (out .entry)) (c .bytes) (now (bytes .entry))) ⌝ }
+{
+    let visits = c.visits;
+    let at = c.bytes;
+    let len = bytes.len();
+    if places <= visits {
+        return Step::Stop(WalkRefusal::Full);
+    }
+    if out.len() - at < len {
+        return Step::Stop(WalkRefusal::Full);
+    }
+    copy(bytes, out, at);
+    scratch[visits] = place;
+    Step::Next(Count {
+        visits: visits + 1,
+        bytes: at + len,
+    })
+}
+
+// The look's answer as a visit has it: its refusal, unchanged, which ends the walk; a good block leaves the counts as they are.
+fn stop(answer: Looked, c: Count) -> Step
+    ensures { λ r. ⌜ stepOutcome r ≡ mapOutcome (λ h. c) (lookedOutcome answer) ⌝ }
+{
+    match answer {
+        Looked::Refused(refusal) => Step::Stop(refusal),
+        Looked::Good(_) => Step::Next(c),
+    }
+}
+
+// Reads a block that is due: 14, then 3 to 10, then 15. A node has no records: it hands an empty part of the image on.
+pub(crate) fn visit(
+    g: Geometry,
+    kind: TreeKind,
+    image: &[u8],
+    block: u32,
+    level: u16,
+    scratch: &mut [u64],
+    out: &mut [u8],
+    places: usize,
+    c: Count,
+) -> Step
+    requires { ⌜ geometryOk g ≡ true ⌝ }
+    requires { ⌜ Fitting (now scratch) (now out) places c ⌝ }
+    ensures { λ r. ⌜ stepOutcome r ≡ stepOf places (length (now (out .entry))) c (lookIn (shapeOf g kind) (now (image .entry)) (visitOf block level)) ⌝ }
+    ensures { λ r. ⌜ Wrote (stepOutcome r) (visitOf block level) (lookIn (shapeOf g kind) (now (image .entry)) (visitOf block level)) c
+        (now (scratch .entry)) (now (scratch .exit)) (now (out .entry)) (now (out .exit)) ⌝ }
+{
+    let answer = look(g, kind, image, AgBlock(block), level);
+    let Looked::Good(header) = answer else {
+        return stop(answer, c);
+    };
+    let place = (level as u64) * LEVEL_STEP + (block as u64);
+    if level == 0 {
+        let from = (block as usize) * (g.blocksize as usize) + header.body;
+        let to = from + (header.numrecs as usize) * kind.record_len();
+        return enter(&image[from..to], place, scratch, out, places, c);
+    }
+    enter(&image[0..0], place, scratch, out, places, c)
+}

@@ -1,0 +1,262 @@
+// The walk of a tree over lent memory, left to right and depth first (`EveryWalk` of specs/Forest.antt).
+ghost use mathlib.Core.Path.{_≡_};
+ghost use Prim.Native.Nat.{_/_, _≤_, _<_, _^_, max};
+ghost use lib.ListN.{length, take};
+ghost use Rattle.codec.specs.Bytes.{withBytes};
+ghost use Rattle.codec.specs.Question.{done};
+ghost use Rattle.blocks.specs.Geometry.{geometryOk};
+ghost use Rattle.blocks.specs.Tree.{recordLen};
+ghost use Rattle.walks.specs.Memory.{zeros};
+ghost use Rattle.walks.specs.Walk.{byLevel};
+ghost use Rattle.walks.specs.Shapes.{shapeOf};
+ghost use Rattle.walks.specs.declared.walk.Walked.the-variants.{Read, Refused};
+ghost use Rattle.walks.specs.WalkCall.{walkIn, walkOf, lent, report};
+ghost use Rattle.walks.specs.WalkAnswer.{walkedReport, WalkIs};
+ghost use Rattle.walks.specs.inner.WalkState.{seenOf, left, Begun, FirstIs};
+use crate::by_level::order;
+use crate::memory::zero8;
+use crate::memory::zero32;
+use crate::memory::zero64;
+use crate::path::Next;
+use crate::path::advance;
+use crate::path::open;
+use crate::refusal::WalkRefusal;
+use crate::visit::Count;
+use crate::visit::Step;
+use crate::visit::visit;
+use blocks::check::BlockRefusal;
+use blocks::geometry::AgBlock;
+use blocks::geometry::Geometry;
+use blocks::kind::TreeKind;
+use blocks::kind::block_capacity;
+
+// What a walk comes to. `visits` counts the blocks that passed 13; in a finished walk these are the blocks of the block list.
+pub enum Walked {
+    Read {
+        visits: usize,
+        records: usize,
+        bytes: usize,
+    },
+    Refused {
+        refusal: WalkRefusal,
+        visits: usize,
+    },
+}
+
+// A walk that is refused after so many visits.
+fn refused(refusal: WalkRefusal, visits: usize) -> Walked
+    ensures { λ r. ⌜ r ≡ Refused refusal visits ⌝ }
+{
+    Walked::Refused { refusal, visits }
+}
+
+// A walk that has read its last block.
+fn read_all(kind: TreeKind, c: Count) -> Walked
+    ensures { λ r. ⌜ r ≡ Read (c .visits) (c .bytes / recordLen kind) (c .bytes) ⌝ }
+{
+    let bytes = c.bytes;
+    Walked::Read {
+        visits: c.visits,
+        records: bytes / kind.record_len(),
+        bytes,
+    }
+}
+
+// Visits every block that is due, from the root on; 13 before each. One turn is one visit: going back to a node is none.
+fn descend(
+    g: Geometry,
+    kind: TreeKind,
+    image: &[u8],
+    root: u32,
+    levels: u32,
+    limit: usize,
+    stack: &mut [u32],
+    scratch: &mut [u64],
+    out: &mut [u8],
+    places: usize,
+) -> Walked
+    requires { ⌜ Begun (geometryOk g) levels (length (now stack)) (length (now scratch)) places ⌝ }
+    requires { ⌜ limit < 2 ^ 63 ⌝ }
+    ensures { λ r. ⌜ walkedReport r ≡ report (recordLen kind) (done (walkIn (shapeOf g kind) (now (image .entry)) root levels limit places
+        (length (now (out .entry))))) ⌝ }
+    ensures { λ r. ⌜ left r (walkIn (shapeOf g kind) (now (image .entry)) root levels limit places (length (now (out .entry)))) (now (scratch .exit))
+        (now (out .entry)) (now (out .exit)) ⌝ }
+{
+    let mut c = Count {
+        visits: 0,
+        bytes: 0,
+    };
+    let mut block = root;
+    let mut level = levels - 1;
+    loop {
+        let visits = c.visits;
+        if limit <= visits {
+            return refused(WalkRefusal::Visits, visits);
+        }
+        let step = visit(g, kind, image, block, level as u16, scratch, out, places, c);
+        match step {
+            Step::Stop(refusal) => return refused(refusal, visits + 1),
+            Step::Next(after) => c = after,
+        }
+        let low = open(stack, block, level);
+        let next = advance(g, kind, image, stack, low, levels);
+        let Next::Block { block: b, level: l } = next else {
+            return read_all(kind, c);
+        };
+        block = b;
+        level = l;
+    }
+}
+
+// After a finished walk: the block list by level, and both scratches zero.
+fn finish(visits: usize, levels: u64, stack: &mut [u32], scratch: &mut [u64], blocks: &mut [u32])
+    requires { ⌜ (visits ≤ length (now scratch)) × (visits ≤ length (now blocks)) ⌝ }
+    ensures { λ _. ⌜ (now (blocks .exit) ≡ withBytes (now (blocks .entry)) 0 (byLevel levels (seenOf (take visits (now (scratch .entry))))))
+        × (now (stack .exit) ≡ zeros (now (stack .entry))) × (now (scratch .exit) ≡ zeros (now (scratch .entry))) ⌝ }
+{
+    order(scratch, visits, levels, blocks);
+    zero32(stack);
+    zero64(scratch);
+}
+
+// After a refused walk: zeros throughout.
+fn wipe(stack: &mut [u32], scratch: &mut [u64], blocks: &mut [u32], out: &mut [u8])
+    ensures { λ _. ⌜ (now (stack .exit) ≡ zeros (now (stack .entry))) × (now (scratch .exit) ≡ zeros (now (scratch .entry)))
+        × (now (blocks .exit) ≡ zeros (now (blocks .entry))) × (now (out .exit) ≡ zeros (now (out .entry))) ⌝ }
+{
+    zero32(stack);
+    zero64(scratch);
+    zero32(blocks);
+    zero8(out);
+}
+
+// The walk, once 1, 11 and 12 are asked.
+fn walk_tree(
+    g: Geometry,
+    kind: TreeKind,
+    image: &[u8],
+    root: u32,
+    levels: u32,
+    limit: usize,
+    stack: &mut [u32],
+    scratch: &mut [u64],
+    blocks: &mut [u32],
+    out: &mut [u8],
+) -> Walked
+    requires { ⌜ Begun (geometryOk g) levels (length (now stack)) (length (now scratch)) (length (now blocks)) ⌝ }
+    requires { ⌜ limit < 2 ^ 63 ⌝ }
+    ensures { λ r. ⌜ WalkIs (recordLen kind) levels (done (walkIn (shapeOf g kind) (now (image .entry)) root levels limit
+        (length (now (blocks .entry))) (length (now (out .entry))))) r (now (stack .entry)) (now (stack .exit)) (now (scratch .entry))
+        (now (scratch .exit)) (now (blocks .entry)) (now (blocks .exit)) (now (out .entry)) (now (out .exit)) ⌝ }
+{
+    let places = blocks.len();
+    let end = descend(
+        g,
+        kind,
+        image,
+        root,
+        levels,
+        limit,
+        stack,
+        scratch,
+        out,
+        places,
+    );
+    let Walked::Read {
+        visits,
+        records: _,
+        bytes: _,
+    } = end
+    else {
+        wipe(stack, scratch, blocks, out);
+        return end;
+    };
+    finish(visits, levels as u64, stack, scratch, blocks);
+    end
+}
+
+// The visits that a walk may make: max(agblocks, 64).
+fn limit_of(agblocks: u32) -> usize
+    ensures { λ r. ⌜ (r ≡ max agblocks 64) × (r < 2 ^ 63) ⌝ }
+{
+    if agblocks < 64 {
+        return 64;
+    }
+    agblocks as usize
+}
+
+// What the questions before the first visit come to.
+pub(crate) enum First {
+    Ready,
+    Refused(WalkRefusal),
+}
+
+// Questions 1, 11 and 12, of so many places lent.
+fn ask_first(
+    g: Geometry,
+    kind: TreeKind,
+    levels: u32,
+    stack: usize,
+    scratch: usize,
+    blocks: usize,
+) -> First
+    ensures { λ r. ⌜ FirstIs g kind levels stack scratch blocks r ⌝ }
+{
+    if !g.is_ok() {
+        return First::Refused(WalkRefusal::Block(BlockRefusal::BadGeometry));
+    }
+    if levels < 1 {
+        return First::Refused(WalkRefusal::Levels);
+    }
+    if 9 < levels {
+        return First::Refused(WalkRefusal::Levels);
+    }
+    let capacity = block_capacity(kind, g.version, 1, g.blocksize as usize);
+    if stack < 2 * (levels as usize) * capacity {
+        return First::Refused(WalkRefusal::Scratch);
+    }
+    if scratch < blocks {
+        return First::Refused(WalkRefusal::Scratch);
+    }
+    First::Ready
+}
+
+// Walks a tree of a group from its root, left to right and depth first (`EveryWalk` of specs/Forest.antt): its records in order into `records`,
+// its blocks by level, leaves first, into `blocks`. `image` is the group, block n at n times the block size. Questions 1, 11 and 12; then, at each
+// block, 13, 14, 3 to 10 and 15. `stack` and `scratch` are zero afterwards, and so are both lists where 13 or a later question refused; 1, 11 and
+// 12 touch nothing.
+pub fn walk(
+    g: Geometry,
+    kind: TreeKind,
+    image: &[u8],
+    root: AgBlock,
+    levels: u32,
+    stack: &mut [u32],
+    scratch: &mut [u64],
+    blocks: &mut [u32],
+    records: &mut [u8],
+) -> Walked
+    ensures { λ r. ⌜ WalkIs (recordLen kind) levels (walkOf g kind (now (image .entry)) (root .0) levels
+        (lent (now (stack .entry)) (now (scratch .entry)) (now (blocks .entry)) (now (records .entry)))) r (now (stack .entry)) (now (stack .exit))
+        (now (scratch .entry)) (now (scratch .exit)) (now (blocks .entry)) (now (blocks .exit)) (now (records .entry)) (now (records .exit)) ⌝ }
+{
+    let first = ask_first(g, kind, levels, stack.len(), scratch.len(), blocks.len());
+    match first {
+        First::Refused(refusal) => refused(refusal, 0),
+        First::Ready => {
+            let limit = limit_of(g.agblocks);
+            walk_tree(
+                g,
+                kind,
+                image,
+                root.0,
+                levels,
+                limit,
+                stack,
+                scratch,
+                blocks,
+                records,
+            )
+        }
+    }
+}
