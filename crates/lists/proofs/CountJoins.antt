@@ -390,6 +390,33 @@ module _ (start end s e : ℕ) where
   pub meets-start : (ltb s end && ltb start e) ≡ true → start < e
   meets-start h = let k : ltb start e ≡ true = search conj in omega tests
 
+-- a record that lies within the extent
+
+module _ (start end s e : ℕ) where
+  pub within-not : start < s → false ≡ (leb s start && leb end e)
+  within-not h = rw (lt-leb s start h) refl
+
+  pub within-by : s ≤ start → leb end e ≡ (leb s start && leb end e)
+  within-by h = rw (le-leb s start h) refl
+
+module _ (up w : Bool) (s e : ℕ) (j : Joiner) (r : Refcount) (out : List ℕ) (cut : Cut up w s e j r (length out)) (met : r .startblock < e)
+    (within : (leb s (r .startblock) && leb (stop r) e) ≡ true) (m : ℕ) (qm : m ≡ next up (r .refcount)) where
+  changed-whole : changed up s e r ≡ share (r .startblock) (stop r) m
+  unfolding changed
+  changed-whole =
+      let a : leb s (r .startblock) ≡ true = search conj in
+      let b : leb (stop r) e ≡ true = search conj in
+      rw (clamp-low r s (omega tests), clamp-high r e (omega tests), piece-none (r .startblock) (r .refcount), piece-none (stop r) (r .refcount), qm)
+      (append-nil (share (r .startblock) (stop r) (next up (r .refcount))))
+
+  pub asks-within : Asks w j (r .startblock) (stop r) m (length out)
+  asks-within =
+      let l : Lies (r .startblock) (stop r) (next up (r .refcount)) = lies-next up _ _ _ _ _ (cut .lies) (cut .owned) (omega (arith, met, cut .end)) (omega arith) (omega arith) in
+      (rw qm l, ((omega arith, cut .behind), (cut .fits, room-for w j (changed up s e r) (length out) (cut .room))))
+
+  pub within-pushed : (k : Joiner) (out′ : List ℕ) → Pushed w j out (share (r .startblock) (stop r) m) (stop r) k out′ → Pushed w j out (changed up s e r) (stop r) k out′
+  within-pushed k out′ g = rw changed-whole g
+
 -- ---- places that no record tells of
 
 module _ (up w : Bool) (j : Joiner) (a z : ℕ) (low : z ≤ 2 ^ 31) (behind : j .start + j .count ≤ a) (fits : Fits j) where

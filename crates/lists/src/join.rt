@@ -8,7 +8,7 @@ use codec::refcount::Refcount;
 use codec::refcount::encode;
 ghost use mathlib.Core.Path.{_≡_};
 ghost use mathlib.Core.Bool.{_&&_};
-ghost use lib.Dec.{ltb};
+ghost use lib.Dec.{ltb, leb};
 ghost use Prim.Native.Nat.{_+_, _<_, _≤_, min, max};
 ghost use lib.ListN.{length};
 ghost use Rattle.codec.specs.Accepted.{endLimit};
@@ -137,6 +137,16 @@ pub(crate) fn meets(start: u64, end: u64, s: u64, e: u64) -> bool
     start < e
 }
 
+// Does it lie within those places?
+fn within(start: u64, end: u64, s: u64, e: u64) -> bool
+    ensures { λ t. ⌜ t ≡ (leb s start && leb end e) ⌝ }
+{
+    if start < s {
+        return false;
+    }
+    end <= e
+}
+
 // The places from `a` up to `z` that no record tells of: a raise gives them 2 owners.
 pub(crate) fn fill(j: Joiner, a: u64, z: u64, how: Change, new: &mut [u8], pass: Pass) -> Joiner
     requires { ⌜ (z ≤ endLimit) × (j .start + j .count ≤ a) ⌝ }
@@ -153,7 +163,8 @@ pub(crate) fn fill(j: Joiner, a: u64, z: u64, how: Change, new: &mut [u8], pass:
     push(j, a, z, 2, new, pass)
 }
 
-// A record that the places from `s` up to `e` meet: what lies before them, the owners changed there, and what lies after them.
+// A record that the places from `s` up to `e` meet: what lies before them, the owners changed there, and what lies after them; if it lies within
+// them, in one piece.
 fn cut(j: Joiner, r: Refcount, s: u64, e: u64, how: Change, new: &mut [u8], pass: Pass) -> Joiner
     requires { ⌜ Cut (raises how) (writesCounts pass) s e j r (length (now new)) ⌝ }
     requires { ⌜ r .startblock < e ⌝ }
@@ -162,9 +173,12 @@ fn cut(j: Joiner, r: Refcount, s: u64, e: u64, how: Change, new: &mut [u8], pass
     let start = r.startblock as u64;
     let owners = r.refcount as u64;
     let end = start + r.blockcount as u64;
+    let then = next(how, owners);
+    if within(start, end, s, e) {
+        return push(j, start, end, then, new, pass);
+    }
     let a = clamp(s, start, end);
     let z = clamp(e, start, end);
-    let then = next(how, owners);
     let front = push(j, start, a, owners, new, pass);
     let middle = push(front, a, z, then, new, pass);
     push(middle, z, end, owners, new, pass)
