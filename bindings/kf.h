@@ -25,6 +25,9 @@ extern "C" {
 #define KF_GEOMETRY \
     uint16_t version, uint32_t blocksize, uint32_t agblocks, uint32_t agno, uint64_t uuid_high, uint64_t uuid_low
 
+/* What a block names as its sibling where there is none: at both ends of a level. */
+#define KF_NO_SIBLING 0xFFFFFFFFu
+
 /* CRC32C of the bytes: four at a step from four tables, and one at a step from one. Both answer the CRC, and the same on every input. */
 uint32_t kf_crc32c(const uint8_t *bytes, size_t bytes_len);
 uint32_t kf_crc32c_singly(const uint8_t *bytes, size_t bytes_len);
@@ -34,7 +37,8 @@ uint32_t kf_check_rmaps(const uint8_t *list, size_t list_len);
 uint32_t kf_check_refcounts(const uint8_t *list, size_t list_len);
 
 /* Is it block `block` of the group's tree, at level `level` (1 to 10)?
- * said: level, records, where they begin, how many fit; refused: expected, found (zeros where they are no numbers), 0, 0. */
+ * said: records, how many fit, the block named before it on its level, the one named after it (KF_NO_SIBLING: none); refused: expected,
+ * found (zeros where they are no numbers), 0, 0. The siblings are not asked about; kf_walk_linked asks. */
 uint32_t kf_check_block(KF_GEOMETRY, uint32_t kind, uint32_t block, uint16_t level,
                         const uint8_t *bytes, size_t bytes_len, uint64_t said[4]);
 
@@ -43,8 +47,9 @@ uint32_t kf_check_block(KF_GEOMETRY, uint32_t kind, uint32_t block, uint16_t lev
  * said: levels, blocks of all levels, 0, 0; refused: zeros. */
 uint32_t kf_plan(KF_GEOMETRY, uint32_t kind, uint64_t records, uint64_t levels[9], uint64_t said[4]);
 
-/* The blocks of a fresh tree of the list, one after another, root last; `numbers` are the planned blocks' numbers in the group
- * (1, 3, 19, 20 or 21, 16, 17, 18). A refusal writes nothing, and nothing is written past the last block.
+/* The blocks of a fresh tree of the list, one after another, root last; `numbers` are the planned blocks' numbers in the group, leaves first
+ * (1, 3, 19, 20 or 21, 16, 17, 18). Each block names the one before it on its level and the one after, KF_NO_SIBLING at both ends. A refusal
+ * writes nothing, and nothing is written past the last block.
  * said: blocks, bytes, 0, 0; refused: zeros. */
 uint32_t kf_build(KF_GEOMETRY, uint32_t kind, const uint8_t *list, size_t list_len, const uint32_t *numbers, size_t numbers_len,
                   uint8_t *out, size_t out_len, uint64_t said[4]);
@@ -57,6 +62,13 @@ uint32_t kf_build(KF_GEOMETRY, uint32_t kind, const uint8_t *list, size_t list_l
 uint32_t kf_walk(KF_GEOMETRY, uint32_t kind, const uint8_t *image, size_t image_len, uint32_t root, uint32_t levels,
                  uint32_t *stack, size_t stack_len, uint64_t *scratch, size_t scratch_len,
                  uint32_t *blocks, size_t blocks_len, uint8_t *records, size_t records_len, uint64_t said[4]);
+
+/* The same walk, which refuses and leaves what kf_walk does, and is every level of the tree linked? A level is, where each of its blocks, in
+ * the order met, names the one before it and the one after, KF_NO_SIBLING at both ends. A block met twice is judged at each meeting.
+ * said: visits, records, bytes of records, 1 if every level is linked, else 0; refused: expected, found, visits, 0. */
+uint32_t kf_walk_linked(KF_GEOMETRY, uint32_t kind, const uint8_t *image, size_t image_len, uint32_t root, uint32_t levels,
+                        uint32_t *stack, size_t stack_len, uint64_t *scratch, size_t scratch_len,
+                        uint32_t *blocks, size_t blocks_len, uint8_t *records, size_t records_len, uint64_t said[4]);
 
 /* An extent taken or given up: the reverse map `old` is read and the new one written to `fresh` (19, 20, 22, 23 or 24, 26). A refusal
  * writes nothing, and bytes past the new list stay.

@@ -24,9 +24,9 @@
 //! memory that the caller lends; it takes none of its own. Every call answers
 //! with a result or a [`Refusal`], whose number says which of the library's
 //! questions failed; all questions before it held. A refused call writes
-//! nothing, but a [`walk`] that had begun, which leaves zeros. Past a result
-//! nothing is written. No call keeps anything, so calls on memory of their own
-//! may run at the same time.
+//! nothing, but a [`walk`] or a [`walk_linked`] that had begun, which leaves
+//! zeros. Past a result nothing is written. No call keeps anything, so calls on
+//! memory of their own may run at the same time.
 //!
 //! The questions in short; `docs/QUESTIONS.md` of the repository has each in
 //! full, the order in which each call asks, and the words used here.
@@ -62,6 +62,10 @@ pub const RMAP: usize = 24;
 pub const REFCOUNT: usize = 12;
 /// The bytes of a free extent.
 pub const FREE_EXTENT: usize = 8;
+
+/// What a block names as its sibling where there is none: at both ends of a
+/// level.
+pub const NO_SIBLING: u32 = u32::MAX;
 
 /// What every call on blocks is given.
 #[derive(Debug, Clone, Copy, PartialEq, Eq)]
@@ -208,25 +212,28 @@ pub fn check_refcounts(list: &[u8]) -> Result<(), Refusal> {
 /// What a checked block says of itself.
 #[derive(Debug, Clone, Copy, PartialEq, Eq)]
 pub struct Header {
-    pub level: u16,
     pub numrecs: u16,
-    /// Where the records or keys begin.
-    pub body: usize,
     /// How many records or entries the block could hold.
     pub maxrecs: usize,
+    /// The block that it names before it on its level, or [`NO_SIBLING`].
+    pub leftsib: u32,
+    /// The block that it names after it on its level, or [`NO_SIBLING`].
+    pub rightsib: u32,
 }
 
 /// Is it block `block` of the group's tree, at level `level`? Questions 1 to
-/// 10.
+/// 10. The siblings are handed back and not asked about; [`walk_linked`] asks.
 ///
 /// ```
-/// use kf::{check_block, Geometry, Kind, Values};
+/// use kf::{check_block, Geometry, Kind, Values, NO_SIBLING};
 /// let g = Geometry { version: 5, blocksize: 512, agblocks: 100, agno: 0, meta_uuid: [7; 16] };
 /// // A tree of no records is one block.
 /// let mut out = [0; 512];
 /// kf::build(&g, Kind::Rmap, &[], &[9], &mut out).unwrap();
 /// let header = check_block(&g, Kind::Rmap, 9, 0, &out).unwrap();
-/// assert_eq!((header.numrecs, header.body, header.maxrecs), (0, 56, 19));
+/// assert_eq!((header.numrecs, header.maxrecs), (0, 19));
+/// // Alone on its level.
+/// assert_eq!((header.leftsib, header.rightsib), (NO_SIBLING, NO_SIBLING));
 /// // The same bytes are no block 8: the address is wrong.
 /// let refusal = check_block(&g, Kind::Rmap, 8, 0, &out).unwrap_err();
 /// assert_eq!(refusal.number, 8);
@@ -259,10 +266,10 @@ pub fn check_block(
         )
     };
     let header = Header {
-        level: said[0] as u16,
-        numrecs: said[1] as u16,
-        body: said[2] as usize,
-        maxrecs: said[3] as usize,
+        numrecs: said[0] as u16,
+        maxrecs: said[1] as usize,
+        leftsib: said[2] as u32,
+        rightsib: said[3] as u32,
     };
     answer(n, &said, header)
 }
@@ -330,7 +337,9 @@ pub struct Built {
 
 /// Lay a list out afresh as a tree. `numbers` are the numbers in the group of
 /// the planned blocks, leaves first; the blocks stand one after another in
-/// `out`, root last. Questions 1, 3, 19, 20 or 21, 16, 17 and 18.
+/// `out`, root last. Each names the one before it on its level and the one
+/// after, [`NO_SIBLING`] at both ends. Questions 1, 3, 19, 20 or 21, 16, 17 and
+/// 18.
 ///
 /// ```
 /// use kf::{build, Geometry, Kind, Rmap};
@@ -340,6 +349,8 @@ pub struct Built {
 /// let built = build(&g, Kind::Rmap, &r.bytes(), &[9], &mut out).unwrap();
 /// assert_eq!((built.blocks, built.bytes), (1, 512));
 /// assert_eq!(out[56..80], r.bytes());
+/// // The one block of its level has no sibling.
+/// assert_eq!(out[8..16], [0xFF; 8]);
 /// assert_eq!(build(&g, Kind::Rmap, &r.bytes(), &[], &mut out).unwrap_err().number, 17);
 /// ```
 pub fn build(
@@ -407,6 +418,78 @@ pub struct WalkRefusal {
     pub visits: u64,
 }
 
+type WalkCall = unsafe extern "C" fn(
+    u16,
+    u32,
+    u32,
+    u32,
+    u64,
+    u64,
+    u32,
+    *const u8,
+    usize,
+    u32,
+    u32,
+    *mut u32,
+    usize,
+    *mut u64,
+    usize,
+    *mut u32,
+    usize,
+    *mut u8,
+    usize,
+    *mut [u64; 4],
+) -> u32;
+
+/// A walk by one of the two calls, with its fourth figure.
+fn walk_by(
+    f: WalkCall,
+    g: &Geometry,
+    kind: Kind,
+    image: &[u8],
+    root: u32,
+    levels: u32,
+    lent: Lent,
+) -> Result<(Walked, u64), WalkRefusal> {
+    let mut said = [0; 4];
+    let (high, low) = g.uuid_halves();
+    // SAFETY: a slice that the call reads, four that it writes, which do not
+    // overlap, and four numbers that it writes.
+    let n = unsafe {
+        f(
+            g.version,
+            g.blocksize,
+            g.agblocks,
+            g.agno,
+            high,
+            low,
+            kind.number(),
+            image.as_ptr(),
+            image.len(),
+            root,
+            levels,
+            lent.stack.as_mut_ptr(),
+            lent.stack.len(),
+            lent.scratch.as_mut_ptr(),
+            lent.scratch.len(),
+            lent.blocks.as_mut_ptr(),
+            lent.blocks.len(),
+            lent.records.as_mut_ptr(),
+            lent.records.len(),
+            &mut said,
+        )
+    };
+    let walked = Walked {
+        visits: said[0] as usize,
+        records: said[1] as usize,
+        bytes: said[2] as usize,
+    };
+    answer(n, &said, (walked, said[3])).map_err(|refusal| WalkRefusal {
+        refusal,
+        visits: said[2],
+    })
+}
+
 /// Read a tree of so many levels from its root. The image is the group, block
 /// n at n times the block size. Questions 1, 11 and 12, then at each block 13,
 /// 14, 3 to 10 and 15.
@@ -438,43 +521,66 @@ pub fn walk(
     levels: u32,
     lent: Lent,
 ) -> Result<Walked, WalkRefusal> {
-    let mut said = [0; 4];
-    let (high, low) = g.uuid_halves();
-    // SAFETY: a slice that the call reads, four that it writes, which do not
-    // overlap, and four numbers that it writes.
-    let n = unsafe {
-        raw::kf_walk(
-            g.version,
-            g.blocksize,
-            g.agblocks,
-            g.agno,
-            high,
-            low,
-            kind.number(),
-            image.as_ptr(),
-            image.len(),
-            root,
-            levels,
-            lent.stack.as_mut_ptr(),
-            lent.stack.len(),
-            lent.scratch.as_mut_ptr(),
-            lent.scratch.len(),
-            lent.blocks.as_mut_ptr(),
-            lent.blocks.len(),
-            lent.records.as_mut_ptr(),
-            lent.records.len(),
-            &mut said,
-        )
-    };
-    let walked = Walked {
-        visits: said[0] as usize,
-        records: said[1] as usize,
-        bytes: said[2] as usize,
-    };
-    answer(n, &said, walked).map_err(|refusal| WalkRefusal {
-        refusal,
-        visits: said[2],
-    })
+    walk_by(raw::kf_walk, g, kind, image, root, levels, lent).map(|(walked, _)| walked)
+}
+
+/// The same walk, which refuses and leaves what [`walk`] does, and is every
+/// level of the tree linked? A level is, where each of its blocks, in the order
+/// met, names the one before it and the one after, [`NO_SIBLING`] at both ends;
+/// a block met twice is judged at each meeting. The tree of a [`build`] is
+/// linked.
+///
+/// ```
+/// use kf::{build, plan, walk_linked, Geometry, Kind, Lent, Rmap};
+/// let g = Geometry { version: 5, blocksize: 512, agblocks: 9, agno: 0, meta_uuid: [7; 16] };
+/// let list: Vec<u8> = (0..50)
+///     .flat_map(|i| Rmap { startblock: 8 * i, blockcount: 2, owner: 7, offset: 0 }.bytes())
+///     .collect();
+/// // Three leaves of up to 19 records, and the root.
+/// assert_eq!(plan(&g, Kind::Rmap, 50).unwrap().levels(), [3, 1]);
+/// let numbers: [u32; 4] = [5, 2, 8, 4];
+/// let mut built = [0; 4 * 512];
+/// build(&g, Kind::Rmap, &list, &numbers, &mut built).unwrap();
+/// // Store each block at its number.
+/// let mut image = [0; 9 * 512];
+/// for (n, block) in numbers.iter().zip(built.chunks(512)) {
+///     image[512 * *n as usize..][..512].copy_from_slice(block);
+/// }
+///
+/// let records_of = |image: &[u8]| {
+///     let (mut stack, mut scratch) = ([0; 40], [0; 4]);
+///     let (mut blocks, mut records) = ([0; 4], vec![0; 50 * 24]);
+///     let lent = Lent {
+///         stack: &mut stack,
+///         scratch: &mut scratch,
+///         blocks: &mut blocks,
+///         records: &mut records,
+///     };
+///     let (walked, linked) = walk_linked(&g, Kind::Rmap, image, 4, 2, lent).unwrap();
+///     assert_eq!((walked.visits, walked.records), (4, 50));
+///     (records, linked)
+/// };
+/// assert_eq!(records_of(&image), (list.clone(), true));
+///
+/// // The middle leaf names another block as the one after it, and its check is
+/// // put right again: the same records, no longer linked.
+/// let leaf = &mut image[2 * 512..][..512];
+/// leaf[12..16].copy_from_slice(&5u32.to_be_bytes());
+/// leaf[52..56].fill(0);
+/// let check = kf::crc32c(leaf);
+/// leaf[52..56].copy_from_slice(&check.to_le_bytes());
+/// assert_eq!(records_of(&image), (list, false));
+/// ```
+pub fn walk_linked(
+    g: &Geometry,
+    kind: Kind,
+    image: &[u8],
+    root: u32,
+    levels: u32,
+    lent: Lent,
+) -> Result<(Walked, bool), WalkRefusal> {
+    walk_by(raw::kf_walk_linked, g, kind, image, root, levels, lent)
+        .map(|(walked, linked)| (walked, linked == 1))
 }
 
 /// A reverse-map record, or an extent taken or given up.

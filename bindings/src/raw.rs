@@ -74,6 +74,28 @@ extern "C" {
         records_len: usize,
         said: *mut [u64; 4],
     ) -> u32;
+    pub fn kf_walk_linked(
+        version: u16,
+        blocksize: u32,
+        agblocks: u32,
+        agno: u32,
+        uuid_high: u64,
+        uuid_low: u64,
+        kind: u32,
+        image: *const u8,
+        image_len: usize,
+        root: u32,
+        levels: u32,
+        stack: *mut u32,
+        stack_len: usize,
+        scratch: *mut u64,
+        scratch_len: usize,
+        blocks: *mut u32,
+        blocks_len: usize,
+        records: *mut u8,
+        records_len: usize,
+        said: *mut [u64; 4],
+    ) -> u32;
     pub fn kf_insert(
         old: *const u8,
         old_len: usize,

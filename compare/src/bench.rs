@@ -1,7 +1,8 @@
 //! Both sides on the same inputs in one run, from bytes to bytes, in processor
 //! time of the calling thread, the shortest of several runs.
 
-use crate::library::{self, Edit};
+use crate::library::{self, Edit, Walk};
+use crate::links;
 use oracle::refusal::Outcome;
 use oracle::rmap::Rmap;
 use oracle::sample::{self, Image};
@@ -195,15 +196,16 @@ struct Sample {
 fn tree_image(n: usize, size: usize) -> Sample {
     let list = bare::rmap_bytes(&sample::rmaps(n));
     let g = sample::geometry_for(Tree::Rmap, size as u64, n as u64);
-    let image = sample::image(&g, Tree::Rmap, &list);
+    let mut image = sample::image(&g, Tree::Rmap, &list);
     let plan = paper::plan(&g, Tree::Rmap, n as u64).accepted();
-    let leaves = plan.expect("a plan")[0] as usize;
+    let plan = plan.expect("a plan");
+    links::link(&g, &plan, &image.blocks, &mut image.bytes);
     Sample {
         size,
         g,
         list,
         image,
-        leaves,
+        leaves: plan[0] as usize,
     }
 }
 
@@ -231,8 +233,13 @@ impl Sample {
     }
 
     fn walk_library(&self, lent: &mut Lent) {
+        self.walk_by(Walk::Plain, lent);
+    }
+
+    fn walk_by(&self, w: Walk, lent: &mut Lent) {
         let im = &self.image;
         let r = library::walk(
+            w,
             &library::g(&self.g),
             0,
             &im.bytes,
@@ -243,7 +250,7 @@ impl Sample {
             &mut lent.blocks,
             &mut lent.records,
         );
-        assert_eq!(r.number, 0);
+        assert_eq!((r.number, r.figures[3]), (0, w.says(true)));
     }
 
     fn walk_original(&self) -> bare::WalkAnswer {
@@ -312,6 +319,32 @@ fn trees(rows: &mut Vec<Row>) {
             || bare::build(&s.g, Tree::Rmap, &s.list, &s.image.blocks),
         ));
         assert!(out == s.image.bytes);
+    }
+}
+
+/// The walk without and with the question whether the tree is linked, of the
+/// library, by turns. The original has no such call.
+fn linked() {
+    println!("| reverse map | walk, ms | walk_linked, ms | ratio |");
+    println!("|---|---:|---:|---:|");
+    for (n, size) in [(1_000_000, 4096), (2_000_000, 4096), (1_000_000, 512)] {
+        let s = tree_image(n, size);
+        let mut lent = Walk::BOTH.map(|_| Lent::of(&s));
+        let mut least = [Duration::MAX; 2];
+        for _ in 0..TIMES {
+            for (i, w) in Walk::BOTH.into_iter().enumerate() {
+                let (d, ()) = best(1, || s.walk_by(w, &mut lent[i]));
+                least[i] = least[i].min(d);
+            }
+        }
+        let [a, b] = &lent;
+        assert!(a.records == s.list && b.records == s.list && a.blocks == b.blocks);
+        let [plain, with] = least.map(ms);
+        println!(
+            "| {n} records at {} | {plain:.3} | {with:.3} | {:.2} |",
+            apart(size),
+            with / plain
+        );
     }
 }
 
@@ -469,7 +502,7 @@ pub fn bench(words: &[String]) {
     ];
     for w in words {
         assert!(
-            w == "forms" || parts.iter().any(|(n, _)| n == w),
+            w == "forms" || w == "linked" || parts.iter().any(|(n, _)| n == w),
             "no part {w}"
         );
     }
@@ -490,5 +523,8 @@ pub fn bench(words: &[String]) {
     }
     if !rows.is_empty() {
         print(&rows);
+    }
+    if wanted("linked") {
+        linked();
     }
 }

@@ -3,6 +3,7 @@
 use crate::edits::{expect, same};
 use crate::lent::hex;
 use crate::library;
+use crate::links;
 use crate::tally::{differ, Tally};
 use oracle::ag_btree::reach::stamp;
 use oracle::sample::Random;
@@ -94,6 +95,9 @@ pub fn seal(b: &mut [u8]) {
     }
 }
 
+/// The checks that are noted by the siblings handed back.
+const SIBLINGS: &str = "check_block, of those done";
+
 fn one(g: &Geometry, tree: Tree, block: u32, level: u16, b: &[u8], tally: &mut Tally) {
     let input = || {
         format!(
@@ -108,17 +112,27 @@ fn one(g: &Geometry, tree: Tree, block: u32, level: u16, b: &[u8], tally: &mut T
         Tree::Refcount => 1 + (block & 1) * 0xFFFF_FFFE,
     };
     let got = library::check_block(&library::g(g), kind, block, level, b);
-    same("check_block", &got, expect(&want, header_figures), &input);
+    let due = expect(&want, |h| header_figures(h, b));
+    same("check_block", &got, due, &input);
     tally.add("check_block", got.number);
+    if got.number == 0 {
+        let how = match links::named(b) {
+            [links::NONE, links::NONE] => "no sibling named",
+            _ => "siblings named",
+        };
+        tally.note(SIBLINGS, how);
+    }
 }
 
-/// The figures of a good block.
-pub fn header_figures(h: &bare::Header) -> [u64; 4] {
+/// The figures of a good block. The original hands no siblings back: they are
+/// those that the bytes have.
+pub fn header_figures(h: &bare::Header, b: &[u8]) -> [u64; 4] {
+    let [left, right] = links::named(b);
     [
-        u64::from(h.level),
         u64::from(h.records),
-        h.body as u64,
         h.capacity as u64,
+        u64::from(left),
+        u64::from(right),
     ]
 }
 
@@ -152,6 +166,10 @@ pub fn block(r: &mut Random, g: &Geometry, tree: Tree, len: usize) -> (u32, u16,
         let at = stamped.superblock();
         let n = records.min(65535) as u16;
         stamp(&mut b, &at, tree.shape(), g.agno, block, level, n);
+        // Siblings of any number.
+        if r.below(2) == 0 {
+            b[8..16].copy_from_slice(&r.bytes(8));
+        }
         seal(&mut b);
     } else if len >= 8 {
         let magic = tree.shape().magic_v5.to_be_bytes();
@@ -190,4 +208,5 @@ pub fn blocks(r: &mut Random, scale: u64, tally: &mut Tally) {
             one(&g, other, block ^ 1, level ^ 1, &b, tally);
         }
     }
+    tally.met_both(SIBLINGS);
 }

@@ -120,8 +120,33 @@ pub fn build(g: &G, kind: u32, list: &[u8], numbers: &[u32], out: &mut [u8]) -> 
     })
 }
 
+/// Which walk: the one without and the one with the question whether the tree
+/// is linked.
+#[derive(Debug, Clone, Copy, PartialEq, Eq)]
+pub enum Walk {
+    Plain,
+    Linked,
+}
+
+impl Walk {
+    pub const BOTH: [Walk; 2] = [Walk::Plain, Walk::Linked];
+
+    pub fn name(self) -> &'static str {
+        match self {
+            Walk::Plain => "walk",
+            Walk::Linked => "walk_linked",
+        }
+    }
+
+    /// The fourth figure of a walk that is done; the plain one has none.
+    pub fn says(self, linked: bool) -> u64 {
+        u64::from(self == Walk::Linked && linked)
+    }
+}
+
 #[allow(clippy::too_many_arguments)]
 pub fn walk(
+    w: Walk,
     g: &G,
     kind: u32,
     image: &[u8],
@@ -132,8 +157,12 @@ pub fn walk(
     blocks: &mut [u32],
     records: &mut [u8],
 ) -> Said {
+    let f = match w {
+        Walk::Plain => raw::kf_walk,
+        Walk::Linked => raw::kf_walk_linked,
+    };
     said(|s| unsafe {
-        raw::kf_walk(
+        f(
             g.version,
             g.blocksize,
             g.agblocks,

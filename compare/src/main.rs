@@ -13,6 +13,7 @@ mod edits;
 mod held;
 mod lent;
 mod library;
+mod links;
 mod lists;
 mod real;
 mod sample;
@@ -30,7 +31,7 @@ struct Part {
 }
 
 /// In this order: a part's seed goes by its place.
-const PARTS: [Part; 10] = [
+const PARTS: [Part; 11] = [
     Part {
         name: "crc",
         tries:
@@ -81,6 +82,12 @@ const PARTS: [Part; 10] = [
         name: "takes_held",
         tries: "both lists, agreeing or not",
         run: held::takes,
+    },
+    Part {
+        name: "links",
+        tries:
+            "trees built, stored, then walked with each link in turn changed, and in another order",
+        run: links::links,
     },
 ];
 

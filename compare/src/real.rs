@@ -3,14 +3,16 @@
 //!
 //! A `.case` file has a geometry and blocks in hex, its `.expect` what was
 //! printed of them. The two group trees in scope are `rmap` and `refcount`;
-//! the walk refuses any other tree, as the original does. An `.ops` file is a
-//! history. Each file is named with the calls that were made for it, and a
-//! file that gives rise to none is an error.
+//! each has to be linked, by the siblings printed. The walk refuses any other
+//! tree, as the original does. An `.ops` file is a history. Each file is named
+//! with the calls that were made for it, and a file that gives rise to none is
+//! an error.
 
-use crate::edits::expect;
-use crate::lent::Lent;
-use crate::library::{self, Edit, Said};
+use crate::library::{self, Edit, Walk};
+use crate::links;
 use crate::lists::{count_bytes, Count, STAGING};
+use crate::trees::{walk_figures, Memory, Room};
+use oracle::bare::WalkAnswer;
 use oracle::rmap::{Rmap, OFF_ATTR_FORK, OFF_BMBT_BLOCK, OFF_UNWRITTEN};
 use oracle::{bare, paper, Geometry, Tree};
 use std::fs;
@@ -26,6 +28,8 @@ pub struct RealTree {
     /// By level, leaves first.
     pub blocks: Vec<u32>,
     pub records: Vec<u8>,
+    /// Number, and the blocks before and after it.
+    pub siblings: Vec<[u32; 3]>,
 }
 
 fn number<T: std::str::FromStr>(w: &str) -> T {
@@ -75,6 +79,7 @@ fn read_all(case: &str) -> Vec<(String, RealTree)> {
                     stored: vec![],
                     blocks: vec![],
                     records: vec![],
+                    siblings: vec![],
                 },
             )),
             ["block", n, h] => {
@@ -92,6 +97,10 @@ fn read_all(case: &str) -> Vec<(String, RealTree)> {
             "level" => {
                 let t = &mut all[at.expect("a tree")].1;
                 t.blocks.extend(w[2..].iter().map(|n| number::<u32>(n)));
+            }
+            "sib" => {
+                let t = &mut all[at.expect("a tree")].1;
+                t.siblings.push([1, 2, 3].map(|i| number(w[i])));
             }
             "rec" => {
                 let (name, t) = &mut all[at.expect("a tree")];
@@ -255,86 +264,64 @@ fn history(file: &str, name: &str) -> u32 {
     m.insert + m.take_held + m.let_go
 }
 
-/// A walk of a tree, read as one of a kind: what it said, and what it was
-/// lent, as many places and bytes as the tree has.
-struct Walk {
-    said: Said,
-    stack: Lent<u32>,
-    scratch: Lent<u64>,
-    blocks: Lent<u32>,
-    records: Lent<u8>,
-}
-
-fn walk(t: &RealTree, kind: Tree, image: &[u8]) -> Walk {
-    let stack = 2 * t.levels as usize * paper::node_capacity(&t.g, kind) as usize;
-    let mut stack = Lent::new(stack);
-    let mut scratch = Lent::new(t.blocks.len());
-    let mut blocks = Lent::new(t.blocks.len());
-    let mut records = Lent::new(t.records.len());
-    let said = library::walk(
-        &library::g(&t.g),
-        library::kind(kind),
-        image,
-        t.root,
-        t.levels,
-        stack.part(),
-        scratch.part(),
-        blocks.part(),
-        records.part(),
-    );
-    Walk {
-        said,
-        stack,
-        scratch,
-        blocks,
-        records,
+/// Both walks of a tree, read as one of a kind, with as many places and bytes
+/// as the tree has, beside the original's: its answer.
+fn walks(what: &str, t: &RealTree, kind: Tree, image: &[u8], linked: bool) -> WalkAnswer {
+    let a = bare::walk_blocks(&t.g, kind, image, t.root, t.levels);
+    for w in Walk::BOTH {
+        let mut m = Memory::new(Room {
+            stack: 2 * t.levels as usize * paper::node_capacity(&t.g, kind) as usize,
+            scratch: t.blocks.len(),
+            blocks: t.blocks.len(),
+            bytes: t.records.len(),
+        });
+        let said = m.walk(w, &t.g, kind, image, t.root, t.levels);
+        let due = walk_figures(&a, kind, w.says(linked));
+        assert_eq!((said.number, said.figures), due, "{what} {w:?}");
+        for (part, r) in m.left(&a) {
+            assert!(r.is_ok(), "{what} {w:?} {part}: {r:?}");
+        }
     }
+    a
 }
 
-/// A tree in scope: its records and blocks are those printed.
+/// A tree in scope: its records, blocks and siblings are those printed, and it
+/// is linked.
 fn in_scope(case: &str, name: &str, t: &RealTree) -> u32 {
+    let what = format!("{case} {name}");
     let image = t.image();
-    let w = walk(t, t.tree, &image);
-    let n = t.blocks.len() as u64;
-    let count = (t.records.len() / t.tree.record_len()) as u64;
-    let due = (0, [n, count, t.records.len() as u64, 0]);
-    assert_eq!((w.said.number, w.said.figures), due, "{case} {name}");
-    let left = [
-        w.stack.zero(),
-        w.scratch.zero(),
-        w.blocks.holds(&t.blocks),
-        w.records.holds(&t.records),
-    ];
-    assert!(left.iter().all(Result::is_ok), "{case} {name}: {left:?}");
-    let a = bare::walk_blocks(&t.g, t.tree, &image, t.root, t.levels);
-    let a = a.outcome.accepted().expect("the original walks it");
-    assert!(a.blocks == t.blocks && a.records == t.records);
-    println!("{case} {name}: 1 walk, blocks {n} and records {count} as printed");
-    1
+    let a = walks(&what, t, t.tree, &image, true).outcome.accepted();
+    let a = a.expect("the original walks it");
+    assert!(a.blocks == t.blocks && a.records == t.records, "{what}");
+    assert!(links::linked(&t.g, &image, &t.blocks), "{what}: linked");
+    assert_eq!(t.siblings.len(), t.blocks.len(), "{what}: siblings printed");
+    for &[n, left, right] in &t.siblings {
+        let b = links::block(&t.g, &image, n);
+        let (g, kind) = (library::g(&t.g), library::kind(t.tree));
+        let level = u16::from(b[4]) * 256 + u16::from(b[5]);
+        let said = library::check_block(&g, kind, n, level, b);
+        let due = [left, right].map(u64::from);
+        assert_eq!((said.number, &said.figures[2..]), (0, &due[..]), "{what}");
+    }
+    let (n, count) = (a.blocks.len(), a.records.len() / t.tree.record_len());
+    println!(
+        "{what}: walks 2, block checks {n}; blocks {n}, records {count} and siblings as printed, linked"
+    );
+    2 + n as u32
 }
 
 /// Any other tree, read as each of the two kinds: 3 on version 4, 4 on
 /// version 5, with the original's values.
 fn out_of_scope(case: &str, name: &str, t: &RealTree) -> u32 {
+    let what = format!("{case} {name}");
     let image = t.image();
     let number = if t.g.version == 4 { 3 } else { 4 };
     for kind in Tree::BOTH {
-        let w = walk(t, kind, &image);
-        let a = bare::walk_blocks(&t.g, kind, &image, t.root, t.levels);
-        let mut due = expect(&a.outcome, |_| [0; 4]);
-        due.1[2] = a.visits;
-        assert_eq!((w.said.number, w.said.figures), due, "{case} {name}");
-        assert_eq!(w.said.number, number, "{case} {name}");
-        let left = [
-            w.stack.zero(),
-            w.scratch.zero(),
-            w.blocks.zero(),
-            w.records.zero(),
-        ];
-        assert!(left.iter().all(Result::is_ok), "{case} {name}: {left:?}");
+        let a = walks(&what, t, kind, &image, false);
+        assert_eq!(a.outcome.number(), Some(number), "{what}");
     }
-    println!("{case} {name}: 2 walks, refused by {number} as rmap and as refcount");
-    2
+    println!("{what}: walks 4, refused by {number} as rmap and as refcount");
+    4
 }
 
 /// The name of a file without its folder.

@@ -1,11 +1,11 @@
 //! Cases with the original's answers, or a definition's where it has no such
-//! call, for the program `replay`.
+//! call or figure, for the program `replay`.
 //!
 //! A case is 32 numbers of 4 bytes, big-endian, then bytes:
 //!
 //! | number | |
 //! |---|---|
-//! | 0 | the call: 1 crc32c, 2 check_rmaps, 3 check_refcounts, 4 check_block, 5 plan, 6 build, 7 walk, 8 insert, 9 insert_shared, 10 remove, 11 release, 12 let_go, 13 a walk over blocks that are given one by one, 14 take_held, 15 crc32c_singly; 0 after the last case |
+//! | 0 | the call: 1 crc32c, 2 check_rmaps, 3 check_refcounts, 4 check_block, 5 plan, 6 build, 7 walk, 8 insert, 9 insert_shared, 10 remove, 11 release, 12 let_go, 13 a walk over blocks that are given one by one, 14 take_held, 15 crc32c_singly, 16 walk_linked, 17 a walk_linked over blocks that are given one by one; 0 after the last case |
 //! | 1 | the answer |
 //! | 2 to 9 | the four figures, high half first |
 //! | 10 to 13 | version, block size, agblocks, agno |
@@ -13,27 +13,27 @@
 //! | 18 | the kind: 0 or 1 |
 //! | 19 | start, block or root |
 //! | 20 | count, level or levels |
-//! | 21, 22 | owner; the records of a plan; in 21 the blocks that a walk of 13 is given |
+//! | 21, 22 | owner; the records of a plan; in 21 the blocks that a walk of 13 or 17 is given |
 //! | 23, 24 | offset |
 //! | 25, 26 | bytes of the two inputs |
-//! | 27, 28, 29 | bytes of the three outputs; of a walk 29 is 1 where it leaves stack and scratch zero, 0 where they are untouched |
+//! | 27, 28, 29 | bytes of the three outputs; of a walk (7, 13, 16 and 17) 29 is 1 where it leaves stack and scratch zero, 0 where they are untouched |
 //! | 30, 31 | of a walk: places of the stack and of the scratch |
 //!
 //! Then the inputs, then what each output holds afterwards, all of it: outputs
 //! are lent filled with the byte 0xA5. The second input of a build is its
 //! block numbers. What a plan and a walk leave in the nine places and in the
 //! block list, lent filled so too, stands where an input would: the first of
-//! a plan, the second of a walk. After the inputs of 13 come its blocks, each
-//! as its place in the image and its bytes.
+//! a plan, the second of a walk. After the inputs of 13 and 17 come the blocks,
+//! each as its place in the image and its bytes.
 
 use crate::blocks;
 use crate::edits::{due, expect};
 use crate::held;
-use crate::library::{self, Edit};
+use crate::library::{self, Edit, Walk};
+use crate::links;
 use crate::lists;
 use crate::real;
 use crate::trees;
-use oracle::bare::WalkAnswer;
 use oracle::refusal::Outcome;
 use oracle::rmap::Rmap;
 use oracle::sample::Random;
@@ -43,7 +43,7 @@ use std::collections::BTreeMap;
 const FILL: u8 = 0xA5;
 
 /// The calls by their number in a case.
-const CALLS: [&str; 16] = [
+const CALLS: [&str; 18] = [
     "end",
     "crc32c",
     "check_rmaps",
@@ -60,6 +60,8 @@ const CALLS: [&str; 16] = [
     "walk of real blocks",
     "take_held",
     "crc32c_singly",
+    "walk_linked",
+    "walk_linked of real blocks",
 ];
 
 #[derive(Default)]
@@ -299,7 +301,7 @@ fn block_cases(r: &mut Random, cases: &mut Cases) {
         let tree = r.pick(&Tree::BOTH);
         let (block, level, b) = blocks::block(r, &g, tree, 512);
         let o = paper::parse_block(&g, tree, &b, block, level);
-        let said = expect(&o, blocks::header_figures);
+        let said = expect(&o, |h| blocks::header_figures(h, &b));
         if cases.wants(4, said.0, 4) {
             let c = Case::new(4, said).geometry(&g, tree);
             cases.add(c.two(block, u32::from(level)).given(&b, &[]));
@@ -327,7 +329,7 @@ fn block_cases(r: &mut Random, cases: &mut Cases) {
     }
 }
 
-fn tree_cases(r: &mut Random, cases: &mut Cases) {
+fn build_cases(r: &mut Random, cases: &mut Cases) {
     for _ in 0..3000 {
         let mut g = blocks::geometry(r, false);
         g.block_size = 512;
@@ -354,7 +356,7 @@ fn tree_cases(r: &mut Random, cases: &mut Cases) {
         if r.below(10) == 0 {
             room -= 1 + r.below(20).min(room as u64 - 1) as usize;
         }
-        let o = paper::build(&g, tree, &list, &numbers, room);
+        let o = links::build(&g, tree, &list, &numbers, room);
         let said = expect(&o, |v| {
             [v.len() as u64 / g.block_size, v.len() as u64, 0, 0]
         });
@@ -364,6 +366,11 @@ fn tree_cases(r: &mut Random, cases: &mut Cases) {
             cases.add(c.output(0, room, &o.accepted().unwrap_or_default()));
         }
     }
+}
+
+/// Each walk by both calls, as far as each still wants its answer.
+fn walk_cases(r: &mut Random, cases: &mut Cases) {
+    let mut done = BTreeMap::new();
     for _ in 0..3000 {
         let w = trees::small_walk(r);
         let lent = paper::Lent {
@@ -372,32 +379,66 @@ fn tree_cases(r: &mut Random, cases: &mut Cases) {
             stack_places: w.stack,
             scratch_places: w.scratch,
         };
-        let WalkAnswer { visits, outcome } =
-            paper::walk_blocks(&w.g, w.tree, &w.image, w.root, w.levels, &lent);
-        let mut said = expect(&outcome, |a| {
-            let n = a.records.len() as u64;
-            [a.blocks.len() as u64, n / w.tree.record_len() as u64, n, 0]
-        });
-        if said.0 != 0 {
-            said.1[2] = visits;
-        }
-        if !cases.wants(7, said.0, if said.0 == 0 { 8 } else { 2 }) {
-            continue;
-        }
-        let early = matches!(said.0, 1 | 11 | 12);
-        let (list, records) = match outcome {
-            Outcome::Accepted(a) => (a.blocks, a.records),
-            _ if early => (vec![], vec![]),
-            _ => (vec![0; w.blocks], vec![0; w.bytes]),
+        let a = paper::walk_blocks(&w.g, w.tree, &w.image, w.root, w.levels, &lent);
+        let linked = match &a.outcome {
+            Outcome::Accepted(walked) => links::linked(&w.g, &w.image, &walked.blocks),
+            _ => false,
         };
-        let c = Case::new(7, said).geometry(&w.g, w.tree);
-        let mut places = number_bytes(&list);
-        places.resize(4 * w.blocks, FILL);
-        let c = c.two(w.root, w.levels).given(&w.image, &places);
-        let mut c = c.output(0, w.bytes, &records);
-        c.head[29..].copy_from_slice(&[u32::from(!early), w.stack as u32, w.scratch as u32]);
-        cases.add(c);
+        for (walk, call) in Walk::BOTH.into_iter().zip([7, 16]) {
+            let said = trees::walk_figures(&a, w.tree, walk.says(linked));
+            let wanted = match (&a.outcome, walk) {
+                // Of trees of several blocks, as many of each kind.
+                (Outcome::Accepted(walked), Walk::Linked) if w.levels > 1 => {
+                    let n: &mut u32 = done.entry(link_kind(linked, &walked.blocks)).or_default();
+                    *n += 1;
+                    *n <= 2
+                }
+                (Outcome::Accepted(_), Walk::Linked) => false,
+                (Outcome::Accepted(_), Walk::Plain) => cases.wants(call, 0, 4),
+                _ => cases.wants(call, said.0, 1),
+            };
+            if wanted {
+                cases.add(walk_case(call, said, &w, &a.outcome));
+            }
+        }
     }
+    assert!(
+        done.len() == 3 && done.values().all(|&n| n >= 2),
+        "{done:?}"
+    );
+    let by: Vec<&str> = done.into_keys().collect();
+    println!("walk_linked, of those done two each: {}", by.join("; "));
+}
+
+/// Why a walk's tree is linked or not.
+fn link_kind(linked: bool, blocks: &[u32]) -> &'static str {
+    let twice = (1..blocks.len()).any(|i| blocks[..i].contains(&blocks[i]));
+    match (linked, twice) {
+        (true, _) => "linked",
+        (_, true) => "not linked, a block met twice",
+        _ => "not linked, a wrong link",
+    }
+}
+
+fn walk_case(
+    call: u32,
+    said: (u32, [u64; 4]),
+    w: &trees::SmallWalk,
+    outcome: &Outcome<bare::Walked>,
+) -> Case {
+    let early = matches!(said.0, 1 | 11 | 12);
+    let (list, records) = match outcome {
+        Outcome::Accepted(a) => (a.blocks.clone(), a.records.clone()),
+        _ if early => (vec![], vec![]),
+        _ => (vec![0; w.blocks], vec![0; w.bytes]),
+    };
+    let mut places = number_bytes(&list);
+    places.resize(4 * w.blocks, FILL);
+    let c = Case::new(call, said).geometry(&w.g, w.tree);
+    let c = c.two(w.root, w.levels).given(&w.image, &places);
+    let mut c = c.output(0, w.bytes, &records);
+    c.head[29..].copy_from_slice(&[u32::from(!early), w.stack as u32, w.scratch as u32]);
+    c
 }
 
 /// Trees of real volumes: each of their blocks checked, and the walk as far
@@ -411,7 +452,7 @@ fn real_cases(files: &[String], cases: &mut Cases) {
         for (n, b) in &t.stored {
             let level = u16::from(b[4]) * 256 + u16::from(b[5]);
             let o = paper::parse_block(&t.g, t.tree, b, *n, level);
-            let said = expect(&o, blocks::header_figures);
+            let said = expect(&o, |h| blocks::header_figures(h, b));
             assert_eq!(said.0, 0, "a block of a real volume is good");
             let c = Case::new(4, said).geometry(&t.g, t.tree);
             cases.add(c.two(*n, u32::from(level)).given(b, &[]));
@@ -421,27 +462,35 @@ fn real_cases(files: &[String], cases: &mut Cases) {
             println!("{name} {:?}: not walked, blocks up to {last}", t.tree);
             continue;
         }
-        let n = t.records.len();
-        let figures = [
-            t.blocks.len() as u64,
-            (n / t.tree.record_len()) as u64,
-            n as u64,
-            0,
-        ];
-        let c = Case::new(13, (0, figures)).geometry(&t.g, t.tree);
-        let c = c.two(t.root, t.levels);
-        let mut c = c.given(&[], &number_bytes(&t.blocks));
-        for (n, b) in &t.stored {
-            let place = n * t.g.block_size as u32;
-            c.body.extend(place.to_be_bytes());
-            c.body.extend(b);
+        for (walk, call) in Walk::BOTH.into_iter().zip([13, 17]) {
+            cases.add(real_walk(walk, call, &t));
         }
-        let mut c = c.output(0, n, &t.records);
-        let stack = 2 * t.levels as usize * paper::node_capacity(&t.g, t.tree) as usize;
-        c.head[21] = t.stored.len() as u32;
-        c.head[29..].copy_from_slice(&[1, stack as u32, t.blocks.len() as u32]);
-        cases.add(c);
     }
+}
+
+/// The walk of a real tree.
+fn real_walk(walk: Walk, call: u32, t: &real::RealTree) -> Case {
+    let n = t.records.len();
+    let linked = links::linked(&t.g, &t.image(), &t.blocks);
+    let figures = [
+        t.blocks.len() as u64,
+        (n / t.tree.record_len()) as u64,
+        n as u64,
+        walk.says(linked),
+    ];
+    let c = Case::new(call, (0, figures)).geometry(&t.g, t.tree);
+    let c = c.two(t.root, t.levels);
+    let mut c = c.given(&[], &number_bytes(&t.blocks));
+    for (n, b) in &t.stored {
+        let place = n * t.g.block_size as u32;
+        c.body.extend(place.to_be_bytes());
+        c.body.extend(b);
+    }
+    let mut c = c.output(0, n, &t.records);
+    let stack = 2 * t.levels as usize * paper::node_capacity(&t.g, t.tree) as usize;
+    c.head[21] = t.stored.len() as u32;
+    c.head[29..].copy_from_slice(&[1, stack as u32, t.blocks.len() as u32]);
+    c
 }
 
 /// `sample FILE [CASE ..]`.
@@ -452,7 +501,8 @@ pub fn sample(words: &[String]) {
     list_cases(&mut r, &mut cases);
     block_cases(&mut r, &mut cases);
     edit_cases(&mut r, &mut cases);
-    tree_cases(&mut r, &mut cases);
+    build_cases(&mut r, &mut cases);
+    walk_cases(&mut r, &mut cases);
     held_cases(&mut r, &mut cases);
     real_cases(real, &mut cases);
     let mut out = Vec::new();

@@ -5,7 +5,7 @@ use std::collections::BTreeMap;
 #[derive(Default)]
 pub struct Tally {
     counts: BTreeMap<(&'static str, u32), u64>,
-    ahead: BTreeMap<&'static str, u64>,
+    noted: BTreeMap<&'static str, BTreeMap<&'static str, u64>>,
 }
 
 impl Tally {
@@ -13,9 +13,20 @@ impl Tally {
         *self.counts.entry((call, number)).or_default() += 1;
     }
 
+    /// One more of some calls, `what`, that came out in one of several ways.
+    pub fn note(&mut self, what: &'static str, how: &'static str) {
+        *self.noted.entry(what).or_default().entry(how).or_default() += 1;
+    }
+
     /// An `insert` refused by 23: what the original does with it.
     pub fn ahead(&mut self, original: &'static str) {
-        *self.ahead.entry(original).or_default() += 1;
+        self.note("insert by 23, the original", original);
+    }
+
+    /// Both of two ways were met, or the run has not compared what it should.
+    pub fn met_both(&self, what: &str) {
+        let ways = self.noted.get(what).map_or(0, BTreeMap::len);
+        assert_eq!(ways, 2, "{what}: not both ways were met");
     }
 
     /// The calls made so far.
@@ -39,9 +50,9 @@ impl Tally {
             let by: Vec<String> = mine.iter().map(|(k, n)| format!("{k}: {n}")).collect();
             println!("{call:<15} {total:>9}   {}", by.join(", "));
         }
-        if !self.ahead.is_empty() {
-            let by: Vec<String> = self.ahead.iter().map(|(k, n)| format!("{k} {n}")).collect();
-            println!("insert by 23, the original: {}", by.join(", "));
+        for (what, by) in &self.noted {
+            let by: Vec<String> = by.iter().map(|(k, n)| format!("{k} {n}")).collect();
+            println!("{what}: {}", by.join(", "));
         }
         println!("{:<15} {:>9}   no difference", "all", self.calls());
     }

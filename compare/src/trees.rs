@@ -3,10 +3,11 @@
 use crate::blocks::{geometry, seal};
 use crate::edits::{bytes, expect, same};
 use crate::lent::{hex, Lent};
-use crate::library;
+use crate::library::{self, Walk};
+use crate::links;
 use crate::lists;
 use crate::tally::{differ, Tally};
-use oracle::bare::{self, WalkAnswer};
+use oracle::bare::{self, WalkAnswer, Walked};
 use oracle::paper;
 use oracle::refusal::Outcome;
 use oracle::sample::Random;
@@ -115,7 +116,8 @@ pub fn list(r: &mut Random, tree: Tree, n: usize) -> Vec<u8> {
     }
 }
 
-fn one_build(
+/// A build beside the original's with the links put in; what it wrote.
+pub fn one_build(
     g: &Geometry,
     tree: Tree,
     list: &[u8],
@@ -129,7 +131,7 @@ fn one_build(
             hex(list)
         )
     };
-    let want = paper::build(g, tree, list, numbers, room);
+    let want = links::build(g, tree, list, numbers, room);
     let mut out = Lent::<u8>::new(room);
     let kind = library::kind(tree);
     let got = library::build(&library::g(g), kind, list, numbers, out.part());
@@ -168,7 +170,7 @@ fn sizes(r: &mut Random, g: &Geometry, tree: Tree) -> usize {
 }
 
 /// Distinct numbers below `most`, not in order.
-fn numbers(r: &mut Random, n: usize, most: usize) -> Vec<u32> {
+pub fn numbers(r: &mut Random, n: usize, most: usize) -> Vec<u32> {
     let mut all: Vec<u32> = (0..most as u32).collect();
     for i in 0..n {
         let j = i + r.below((most - i) as u64) as usize;
@@ -230,14 +232,16 @@ pub fn builds(r: &mut Random, scale: u64, tally: &mut Tally) {
 
 /// What a walk is lent, in places and bytes.
 #[derive(Debug, Clone, Copy)]
-struct Room {
-    stack: usize,
-    scratch: usize,
-    blocks: usize,
-    bytes: usize,
+pub struct Room {
+    pub stack: usize,
+    pub scratch: usize,
+    pub blocks: usize,
+    pub bytes: usize,
 }
 
-fn one_walk(
+/// Both walks of an image: what they gave, where they were done, and whether
+/// the tree is linked.
+pub fn one_walk(
     g: &Geometry,
     tree: Tree,
     image: &[u8],
@@ -245,62 +249,112 @@ fn one_walk(
     levels: u32,
     room: Room,
     tally: &mut Tally,
-) {
-    let input = || {
-        format!(
-            "walk {g:?} {tree:?} root {root} levels {levels} {room:?} image {}",
-            hex(image)
-        )
-    };
+) -> Option<(Walked, bool)> {
     let lent = paper::Lent {
         record_bytes: room.bytes,
         block_places: room.blocks,
         stack_places: room.stack,
         scratch_places: room.scratch,
     };
-    let WalkAnswer { visits, outcome } = paper::walk_blocks(g, tree, image, root, levels, &lent);
-    let mut stack = Lent::<u32>::new(room.stack);
-    let mut scratch = Lent::<u64>::new(room.scratch);
-    let mut blocks = Lent::<u32>::new(room.blocks);
-    let mut records = Lent::<u8>::new(room.bytes);
-    let got = library::walk(
-        &library::g(g),
-        library::kind(tree),
-        image,
-        root,
-        levels,
-        stack.part(),
-        scratch.part(),
-        blocks.part(),
-        records.part(),
-    );
-    let width = tree.record_len() as u64;
-    let mut want = expect(&outcome, |w| {
-        let n = w.records.len() as u64;
-        [w.blocks.len() as u64, n / width, n, 0]
-    });
-    if want.0 != 0 {
-        want.1[2] = visits;
-    }
-    same("walk", &got, want, &input);
-    let (s, c, b, o) = match &outcome {
-        Outcome::Accepted(w) => {
-            assert_eq!(visits as usize, w.blocks.len());
-            let b = blocks.holds(&w.blocks);
-            (stack.zero(), scratch.zero(), b, records.holds(&w.records))
-        }
-        Outcome::Refused(r) if matches!(r.number, 11 | 12) || (r.number == 1 && visits == 0) => (
-            stack.untouched(),
-            scratch.untouched(),
-            blocks.untouched(),
-            records.untouched(),
-        ),
-        _ => (stack.zero(), scratch.zero(), blocks.zero(), records.zero()),
+    let want = paper::walk_blocks(g, tree, image, root, levels, &lent);
+    let linked = match &want.outcome {
+        Outcome::Accepted(w) => links::linked(g, image, &w.blocks),
+        _ => false,
     };
-    for (r, what) in [(s, "stack"), (c, "scratch"), (b, "blocks"), (o, "records")] {
-        bytes("walk", what, r, &input);
+    for w in Walk::BOTH {
+        let input = || {
+            format!(
+                "{} {g:?} {tree:?} root {root} levels {levels} {room:?} image {}",
+                w.name(),
+                hex(image)
+            )
+        };
+        let mut m = Memory::new(room);
+        let got = m.walk(w, g, tree, image, root, levels);
+        let due = walk_figures(&want, tree, w.says(linked));
+        same(w.name(), &got, due, &input);
+        for (what, r) in m.left(&want) {
+            bytes(w.name(), what, r, &input);
+        }
+        tally.add(w.name(), got.number);
     }
-    tally.add("walk", got.number);
+    let walked = want.outcome.accepted()?;
+    tally.note(links::LINKED, if linked { "linked" } else { "not linked" });
+    Some((walked, linked))
+}
+
+/// Number and figures of a walk; `last` is the fourth of one that is done.
+pub fn walk_figures(a: &WalkAnswer, tree: Tree, last: u64) -> (u32, [u64; 4]) {
+    let width = tree.record_len() as u64;
+    let mut due = expect(&a.outcome, |w| {
+        let n = w.records.len() as u64;
+        [w.blocks.len() as u64, n / width, n, last]
+    });
+    if due.0 != 0 {
+        due.1[2] = a.visits;
+    }
+    due
+}
+
+/// What a walk is lent.
+pub struct Memory {
+    stack: Lent<u32>,
+    scratch: Lent<u64>,
+    blocks: Lent<u32>,
+    records: Lent<u8>,
+}
+
+impl Memory {
+    pub fn new(room: Room) -> Memory {
+        Memory {
+            stack: Lent::new(room.stack),
+            scratch: Lent::new(room.scratch),
+            blocks: Lent::new(room.blocks),
+            records: Lent::new(room.bytes),
+        }
+    }
+
+    pub fn walk(
+        &mut self,
+        w: Walk,
+        g: &Geometry,
+        tree: Tree,
+        image: &[u8],
+        root: u32,
+        levels: u32,
+    ) -> library::Said {
+        library::walk(
+            w,
+            &library::g(g),
+            library::kind(tree),
+            image,
+            root,
+            levels,
+            self.stack.part(),
+            self.scratch.part(),
+            self.blocks.part(),
+            self.records.part(),
+        )
+    }
+
+    /// Is all of it as a walk with that answer leaves it?
+    pub fn left(&self, a: &WalkAnswer) -> [(&'static str, Result<(), String>); 4] {
+        let (s, c, b, o) = (&self.stack, &self.scratch, &self.blocks, &self.records);
+        let (s, c, b, o) = match &a.outcome {
+            Outcome::Accepted(w) => {
+                assert_eq!(a.visits as usize, w.blocks.len());
+                let (b, o) = (b.holds(&w.blocks), o.holds(&w.records));
+                (s.zero(), c.zero(), b, o)
+            }
+            Outcome::Refused(r)
+                if matches!(r.number, 11 | 12) || (r.number == 1 && a.visits == 0) =>
+            {
+                (s.untouched(), c.untouched(), b.untouched(), o.untouched())
+            }
+            _ => (s.zero(), c.zero(), b.zero(), o.zero()),
+        };
+        [("stack", s), ("scratch", c), ("blocks", b), ("records", o)]
+    }
 }
 
 pub fn walks(r: &mut Random, scale: u64, tally: &mut Tally) {
@@ -356,7 +410,11 @@ pub fn walks(r: &mut Random, scale: u64, tally: &mut Tally) {
             blocks: total + 1,
             bytes: list.len() + r.below(40) as usize,
         };
-        one_walk(&g, tree, &image, root, levels, plenty, tally);
+        let whole = one_walk(&g, tree, &image, root, levels, plenty, tally);
+        assert!(
+            whole.is_none_or(|(_, linked)| linked),
+            "a built tree is linked"
+        );
         // Less memory.
         let mut room = plenty;
         match r.below(8) {
@@ -472,8 +530,13 @@ pub fn walks(r: &mut Random, scale: u64, tally: &mut Tally) {
             blocks: r.pick(&[300, 300, 64, 65, 30]),
             bytes: r.pick(&[8000, 8000, 500]),
         };
-        one_walk(&g, tree, &image, levels - 1, levels, room, tally);
+        let shared = one_walk(&g, tree, &image, levels - 1, levels, room, tally);
+        // A block met twice can't name two blocks before it.
+        if let Some((w, linked)) = shared {
+            assert_eq!(linked, w.blocks.len() == levels as usize, "{:?}", w.blocks);
+        }
     }
+    tally.met_both(links::LINKED);
 }
 
 /// A walk over a small image, with what it is lent.
@@ -502,7 +565,7 @@ pub fn small_walk(r: &mut Random) -> SmallWalk {
     let total = plan.iter().sum::<u64>() as usize;
     let most = total + 1;
     let at = numbers(r, total, most);
-    let out = bare::build(&g, tree, &list, &at)
+    let out = links::build(&g, tree, &list, &at, total * 512)
         .accepted()
         .expect("a tree");
     let mut image = vec![0x5A; most * 512];
@@ -523,7 +586,7 @@ pub fn small_walk(r: &mut Random) -> SmallWalk {
         levels,
     };
     let hurt = at[r.below(total as u64) as usize] as usize * 512;
-    match r.below(24) {
+    match r.below(26) {
         0 => {
             w.g.version = 4;
             w.stack += 100;
@@ -547,13 +610,14 @@ pub fn small_walk(r: &mut Random) -> SmallWalk {
         }
         19 => image[hurt + r.below(512) as usize] ^= 4,
         20 | 21 => {
-            // A node of three levels whose children are one block.
+            // A tree of three levels whose nodes have one block as every child.
             (levels, root) = (3, 2);
+            let children = r.pick(&[2, 9]);
             let cap = paper::node_capacity(&g, tree) as usize;
             image = vec![0; 3 * 512];
             let sb = g.superblock();
             for (level, b) in image.chunks_exact_mut(512).enumerate() {
-                let n = if level == 0 { 1 } else { 9 };
+                let n = if level == 0 { 1 } else { children };
                 for i in 0..if level == 0 { 0 } else { n } {
                     let p = 56 + cap * (tree.entry_len() - 4) + 4 * i;
                     b[p..p + 4].copy_from_slice(&(level as u32 - 1).to_be_bytes());
@@ -564,6 +628,14 @@ pub fn small_walk(r: &mut Random) -> SmallWalk {
             }
             w.stack = 6 * cap;
             (w.blocks, w.scratch, w.bytes) = (100, 100, 2400);
+        }
+        22 | 23 => {
+            // A link to another block of the tree, to none or anywhere.
+            let i = hurt + r.pick(&[8, 12]);
+            let any = r.next() as u32;
+            let to = r.pick(&[at[0], root, links::NONE, any]);
+            image[i..i + 4].copy_from_slice(&to.to_be_bytes());
+            seal(&mut image[hurt..hurt + 512]);
         }
         _ => (),
     }

@@ -20,7 +20,7 @@ use Rattle.blocks.specs.declared.check.Header.{Header}
 use Rattle.blocks.specs.Offsets.{levelAt, numrecsAt}
 use Rattle.blocks.specs.Geometry.{geometryOk}
 use Rattle.blocks.specs.Tree.{headerLen, hasTree, placeLen, capacity}
-use Rattle.blocks.specs.Check.{identityQuestions, contentQuestions, treeQuestions, blockQuestions, headerOf, checkBlock}
+use Rattle.blocks.specs.Check.{identityQuestions, contentQuestions, treeQuestions, blockQuestions, leftsibIn, rightsibIn, headerOf, checkBlock}
 use Rattle.blocks.proofs.Laws.{header-least, places-fit}
 
 pub record Accepted (g : Geometry) (kind : TreeKind) (level : ℕ) (b : List ℕ) (h : Header) : Type 0 where
@@ -34,6 +34,8 @@ pub record Accepted (g : Geometry) (kind : TreeKind) (level : ℕ) (b : List ℕ
   pub level-is : h .level ≡ level
   pub body-is : h .body ≡ headerLen (g .version)
   pub numrecs-is : h .numrecs ≡ beOf (bytesAt b numrecsAt 2)
+  pub leftsib-is : h .leftsib .0 ≡ leftsibIn b
+  pub rightsib-is : h .rightsib .0 ≡ rightsibIn b
   pub maxrecs-is : h .maxrecs ≡ capacity kind (g .version) level (length b)
   -- the records claimed fit
   pub few : h .numrecs ≤ capacity kind (g .version) level (length b)
@@ -65,6 +67,8 @@ module _ (g : Geometry) (kind : TreeKind) (block level : ℕ) (b : List ℕ) whe
         level-is = ap (λ (x : Header). x .level) (sym is);
         body-is = ap (λ (x : Header). x .body) (sym is);
         numrecs-is = records;
+        leftsib-is = ap (λ (x : Header). x .leftsib .0) (sym is);
+        rightsib-is = ap (λ (x : Header). x .rightsib .0) (sym is);
         maxrecs-is = ap (λ (x : Header). x .maxrecs) (sym is);
         few = most;
         places = places-fit kind (g .version) level (length b) (h .numrecs) fits most;

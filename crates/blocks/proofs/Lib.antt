@@ -2,4 +2,5 @@ pub mod Laws
 pub mod Heads
 pub mod Meaning
 pub mod Stamped
+pub mod Relinked
 pub mod Accepted

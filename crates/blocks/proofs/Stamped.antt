@@ -23,7 +23,7 @@ use Rattle.blocks.specs.declared.kind.TreeKind.{TreeKind}
 use Rattle.blocks.specs.Offsets.{magicAt, levelAt, numrecsAt, blknoAt, uuidAt, ownerAt, crcAt, v5HeaderLen}
 use Rattle.blocks.specs.Geometry.{geometryOk, linearOf, addressOf, Fits}
 use Rattle.blocks.specs.Tree.{headerLen, hasTree, magicOf, capacity}
-use Rattle.blocks.specs.Check.{blockCrc, headerSays, checkBlock}
+use Rattle.blocks.specs.Check.{blockCrc, leftsibIn, rightsibIn, headerSays, checkBlock}
 use Rattle.blocks.specs.Stamp.{siblings, plainHead, identityHead, withCrc, stamped}
 use Rattle.blocks.proofs.Laws.{bounded, header-least, header-five, address-small, same-all}
 use Rattle.blocks.proofs.Heads.{plain-length, identity-length}
@@ -45,6 +45,14 @@ module _ (kind : TreeKind) (version level numrecs left right : ℕ) (t : List �
   records-read : numrecs < 2 ^ 16 → beOf (bytesAt (plain ++ t) numrecsAt 2) ≡ numrecs
   unfolding bytesAt beBytes
   records-read h = beOf-beBytes-lt 2 numrecs h
+
+  left-read : left < 2 ^ 32 → leftsibIn (plain ++ t) ≡ left
+  unfolding bytesAt beBytes
+  left-read h = beOf-beBytes-lt 4 left h
+
+  right-read : right < 2 ^ 32 → rightsibIn (plain ++ t) ≡ right
+  unfolding bytesAt beBytes
+  right-read h = beOf-beBytes-lt 4 right h
 
 module _ (g : Geometry) (kind : TreeKind) (block level numrecs left right : ℕ) (t : List ℕ) (fits : Fits g) where
   abbrev p : List ℕ
@@ -72,17 +80,17 @@ module _ (g : Geometry) (kind : TreeKind) (block level numrecs left right : ℕ)
 -- ---- a block with its check
 
 module _ (h : List ℕ) (long : v5HeaderLen ≤ length h) where
-  check-fits : crcAt + length (leBytes 4 (blockCrc h)) ≤ length h
+  pub check-fits : crcAt + length (leBytes 4 (blockCrc h)) ≤ length h
   check-fits = omega (arith, length-leBytes 4 (blockCrc h))
 
-  withCrc-length : length (withCrc h) ≡ length h
+  pub withCrc-length : length (withCrc h) ≡ length h
   withCrc-length = length-withBytes h crcAt (leBytes 4 (blockCrc h)) check-fits
 
   -- the check's own field is no part of the check
   withCrc-same : blockCrc (withCrc h) ≡ blockCrc h
   withCrc-same = ap crc32cOf (withBytes-again h crcAt (leBytes 4 (blockCrc h)) (0 ∷ 0 ∷ 0 ∷ 0 ∷ []) check-fits (length-leBytes 4 (blockCrc h)))
 
-  crc-read : IsBytes h → leOf (bytesAt (withCrc h) crcAt 4) ≡ blockCrc (withCrc h)
+  pub crc-read : IsBytes h → leOf (bytesAt (withCrc h) crcAt 4) ≡ blockCrc (withCrc h)
   unfolding beBytes
   crc-read bytes =
       le-read-back h crcAt 4 (blockCrc h) long (crc32cOf-lt (withBytes h crcAt (0 ∷ 0 ∷ 0 ∷ 0 ∷ [])) (isBytes-withBytes h crcAt (0 ∷ 0 ∷ 0 ∷ 0 ∷ []) bytes (isBytes-beBytes 4 0)))
@@ -91,24 +99,25 @@ module _ (h : List ℕ) (long : v5HeaderLen ≤ length h) where
 -- ---- a block passes where each of its fields is as expected
 
 module _
-    (g : Geometry) (kind : TreeKind) (block level numrecs len : ℕ) (s : List ℕ)
+    (g : Geometry) (kind : TreeKind) (block level numrecs left right len : ℕ) (s : List ℕ)
     (ok : geometryOk g ≡ true) (tree : hasTree kind (g .version) ≡ true)
     (size : length s ≡ len) (long : headerLen (g .version) ≤ len) (room : numrecs ≤ capacity kind (g .version) level len)
     (magic : beOf (bytesAt s magicAt 4) ≡ magicOf kind (g .version)) (at : beOf (bytesAt s levelAt 2) ≡ level) (records : beOf (bytesAt s numrecsAt 2) ≡ numrecs)
+    (before : leftsibIn s ≡ left) (next : rightsibIn s ≡ right)
   where
-    passes-4 : eqb (g .version) 5 ≡ false → checkBlock g kind block level s ≡ done (headerSays g kind level numrecs len)
+    passes-4 : eqb (g .version) 5 ≡ false → checkBlock g kind block level s ≡ done (headerSays g kind level numrecs left right len)
     unfolding checkBlock
-    passes-4 v = rw (size, v, ok, le-leb _ _ long, tree, eq-eqb _ _ magic, eq-eqb _ _ at, records, le-leb _ _ room)
+    passes-4 v = rw (size, v, ok, le-leb _ _ long, tree, eq-eqb _ _ magic, eq-eqb _ _ at, records, before, next, le-leb _ _ room)
 
     passes-5 : eqb (g .version) 5 ≡ true
         → leOf (bytesAt s crcAt 4) ≡ blockCrc s
         → bytesAt s uuidAt 16 ≡ g .«meta_uuid»
         → beOf (bytesAt s ownerAt 4) ≡ g .agno
         → beOf (bytesAt s blknoAt 8) ≡ addressOf g (linearOf g block)
-        → checkBlock g kind block level s ≡ done (headerSays g kind level numrecs len)
+        → checkBlock g kind block level s ≡ done (headerSays g kind level numrecs left right len)
     unfolding checkBlock
     passes-5 v crc uuid owner address =
-        rw (size, v, ok, le-leb _ _ long, tree, eq-eqb _ _ magic, eq-eqb _ _ crc, uuid, same-all (g .«meta_uuid»), eq-eqb _ _ owner, eq-eqb _ _ address, eq-eqb _ _ at, records, le-leb _ _ room)
+        rw (size, v, ok, le-leb _ _ long, tree, eq-eqb _ _ magic, eq-eqb _ _ crc, uuid, same-all (g .«meta_uuid»), eq-eqb _ _ owner, eq-eqb _ _ address, eq-eqb _ _ at, records, before, next, le-leb _ _ room)
 
 -- ---- the stamp
 
@@ -201,23 +210,26 @@ module _
             (λ v. isBytes-withBytes (withBytes b 0 whole) crcAt (leBytes 4 (blockCrc (withBytes b 0 whole))) head-bytes (isBytes-leBytes 4 (blockCrc (withBytes b 0 whole))))
             (λ v. isBytes-withBytes b 0 front bytes front-bytes)
 
-        -- a stamped block passes the check, with the records that it was stamped with
+        -- a stamped block passes the check, with the records and siblings that it was stamped with
         module _
             (ok : geometryOk g ≡ true) (tree : hasTree kind (g .version) ≡ true)
             (number : block < 2 ^ 32) (level-fits : level < 2 ^ 16) (records-fit : numrecs < 2 ^ 16)
+            (left-fits : left < 2 ^ 32) (right-fits : right < 2 ^ 32)
             (room : numrecs ≤ capacity kind (g .version) level (length b))
           where
-            on-4 : eqb (g .version) 5 ≡ false → checkBlock g kind block level (withBytes b 0 front) ≡ done (headerSays g kind level numrecs (length b))
+            on-4 : eqb (g .version) 5 ≡ false → checkBlock g kind block level (withBytes b 0 front) ≡ done (headerSays g kind level numrecs left right (length b))
             unfolding withBytes
             on-4 v =
                 let d : List ℕ = drop (0 + length front) b in
-                passes-4 g kind block level numrecs (length b) (front ++ d) ok tree (length-withBytes b 0 front front-fits) long room
+                passes-4 g kind block level numrecs left right (length b) (front ++ d) ok tree (length-withBytes b 0 front front-fits) long room
                 (magic-read kind (g .version) level numrecs left right d)
                 (level-read kind (g .version) level numrecs left right d level-fits)
                 (records-read kind (g .version) level numrecs left right d records-fit)
+                (left-read kind (g .version) level numrecs left right d left-fits)
+                (right-read kind (g .version) level numrecs left right d right-fits)
                 v
 
-            on-5 : eqb (g .version) 5 ≡ true → checkBlock g kind block level (withCrc (withBytes b 0 whole)) ≡ done (headerSays g kind level numrecs (length b))
+            on-5 : eqb (g .version) 5 ≡ true → checkBlock g kind block level (withCrc (withBytes b 0 whole)) ≡ done (headerSays g kind level numrecs left right (length b))
             unfolding withBytes
             on-5 v =
                 let h : List ℕ = withBytes b 0 whole in
@@ -228,18 +240,20 @@ module _
                 append-assoc (take crcAt h) c (drop (crcAt + length c) h)
                 ∙ ap (λ (l : List ℕ). l ++ t) (take-at whole (drop (0 + length whole) b) crcAt whole-length) in
                 let is-plain : withCrc h ≡ front ++ (i ++ t) = is ∙ append-assoc front i t in
-                passes-5 g kind block level numrecs (length b) (withCrc h) ok tree (withCrc-length h (head-long v) ∙ length-5 v) long room
+                passes-5 g kind block level numrecs left right (length b) (withCrc h) ok tree (withCrc-length h (head-long v) ∙ length-5 v) long room
                 (ap (λ (l : List ℕ). beOf (bytesAt l magicAt 4)) is-plain ∙ magic-read kind (g .version) level numrecs left right (i ++ t))
                 (ap (λ (l : List ℕ). beOf (bytesAt l levelAt 2)) is-plain ∙ level-read kind (g .version) level numrecs left right (i ++ t) level-fits)
                 (ap (λ (l : List ℕ). beOf (bytesAt l numrecsAt 2)) is-plain ∙ records-read kind (g .version) level numrecs left right (i ++ t) records-fit)
+                (ap leftsibIn is-plain ∙ left-read kind (g .version) level numrecs left right (i ++ t) left-fits)
+                (ap rightsibIn is-plain ∙ right-read kind (g .version) level numrecs left right (i ++ t) right-fits)
                 v
                 (crc-read h (head-long v) head-bytes)
                 (ap (λ (l : List ℕ). bytesAt l uuidAt 16) is ∙ uuid-read g kind block level numrecs left right t fits)
                 (ap (λ (l : List ℕ). beOf (bytesAt l ownerAt 4)) is ∙ owner-read g kind block level numrecs left right t fits)
                 (ap (λ (l : List ℕ). beOf (bytesAt l blknoAt 8)) is ∙ address-read g kind block level numrecs left right t fits (address-small g ok block number))
 
-            passes : checkBlock g kind block level made ≡ done (headerSays g kind level numrecs (length b))
-            passes = by-version (λ (l : List ℕ). checkBlock g kind block level l ≡ done (headerSays g kind level numrecs (length b))) on-5 on-4
+            passes : checkBlock g kind block level made ≡ done (headerSays g kind level numrecs left right (length b))
+            passes = by-version (λ (l : List ℕ). checkBlock g kind block level l ≡ done (headerSays g kind level numrecs left right (length b))) on-5 on-4
 
 -- ---- the same, of a geometry in memory
 
@@ -257,8 +271,9 @@ module _
       module _
           (ok : geometryOk g ≡ true) (tree : hasTree kind (g .version) ≡ true)
           (number : block < 2 ^ 32) (level-fits : level < 2 ^ 16) (records-fit : numrecs < 2 ^ 16)
+          (left-fits : left < 2 ^ 32) (right-fits : right < 2 ^ 32)
           (room : numrecs ≤ capacity kind (g .version) level (length b))
         where
-          pub stamped-passes : checkBlock g kind block level (stamped g kind block level numrecs left right b) ≡ done (headerSays g kind level numrecs (length b))
+          pub stamped-passes : checkBlock g kind block level (stamped g kind block level numrecs left right b) ≡ done (headerSays g kind level numrecs left right (length b))
           stamped-passes =
-              passes g kind block level numrecs left right b (fits .uuid-long) long fits bytes ok tree number level-fits records-fit room
+              passes g kind block level numrecs left right b (fits .uuid-long) long fits bytes ok tree number level-fits records-fit left-fits right-fits room

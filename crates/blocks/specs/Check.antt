@@ -11,7 +11,7 @@ use Rattle.codec.specs.Question.{Outcome, done, Question, ask, ask-equal, ask-m
 use Rattle.blocks.specs.declared.geometry.Geometry.{Geometry}
 use Rattle.blocks.specs.declared.kind.TreeKind.{TreeKind}
 use Rattle.blocks.specs.declared.check.Header.{Header}
-use Rattle.blocks.specs.Offsets.{magicAt, levelAt, numrecsAt, blknoAt, uuidAt, ownerAt, crcAt}
+use Rattle.blocks.specs.Offsets.{magicAt, levelAt, numrecsAt, leftSiblingAt, rightSiblingAt, blknoAt, uuidAt, ownerAt, crcAt}
 use Rattle.blocks.specs.Geometry.{geometryOk, linearOf, addressOf}
 use Rattle.blocks.specs.Tree.{headerLen, hasTree, magicOf, capacity}
 
@@ -53,14 +53,28 @@ abbrev pub blockQuestions : Geometry → TreeKind → ℕ → ℕ → List ℕ �
 blockQuestions g kind block level b =
     ask 1 (geometryOk g) ∷ ask 2 (leb (headerLen (g .version)) (length b)) ∷ treeQuestions g kind block level b
 
--- what a header says, where the records claimed are `numrecs` and the block has `len` bytes
-abbrev pub headerSays : Geometry → TreeKind → ℕ → ℕ → ℕ → Header
-headerSays g kind level numrecs len =
-    record { level = level; numrecs = numrecs; body = headerLen (g .version); maxrecs = capacity kind (g .version) level len }
+-- the siblings that a block names, on either version: the blocks before and after it on its level
+abbrev pub leftsibIn : List ℕ → ℕ
+leftsibIn b = beOf (bytesAt b leftSiblingAt 4)
+
+abbrev pub rightsibIn : List ℕ → ℕ
+rightsibIn b = beOf (bytesAt b rightSiblingAt 4)
+
+-- what a header says, where the records claimed are `numrecs`, the siblings named are `left` and `right`, and the block has `len` bytes
+abbrev pub headerSays : Geometry → TreeKind → ℕ → ℕ → ℕ → ℕ → ℕ → Header
+headerSays g kind level numrecs left right len =
+    record {
+      level = level;
+      numrecs = numrecs;
+      leftsib = record { 0 = left };
+      rightsib = record { 0 = right };
+      body = headerLen (g .version);
+      maxrecs = capacity kind (g .version) level len;
+    }
 
 -- what a block says of itself, once checked
 abbrev pub headerOf : Geometry → TreeKind → ℕ → List ℕ → Header
-headerOf g kind level b = headerSays g kind level (beOf (bytesAt b numrecsAt 2)) (length b)
+headerOf g kind level b = headerSays g kind level (beOf (bytesAt b numrecsAt 2)) (leftsibIn b) (rightsibIn b) (length b)
 
 -- what 1 to 10 come to
 unfoldable pub checkBlock : Geometry → TreeKind → ℕ → ℕ → List ℕ → Outcome Header

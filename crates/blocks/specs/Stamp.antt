@@ -1,4 +1,4 @@
--- The header that a fresh block is given.
+-- The header that a fresh block is given; and a block with other siblings.
 -- Assumes nothing.
 use Prim.Native.Nat.{ℕ}
 use mathlib.Core.Bool.{cond}
@@ -7,7 +7,7 @@ use lib.Dec.{eqb}
 use Rattle.codec.specs.Bytes.{withBytes, beBytes, leBytes}
 use Rattle.blocks.specs.declared.geometry.Geometry.{Geometry}
 use Rattle.blocks.specs.declared.kind.TreeKind.{TreeKind}
-use Rattle.blocks.specs.Offsets.{crcAt}
+use Rattle.blocks.specs.Offsets.{leftSiblingAt, crcAt}
 use Rattle.blocks.specs.Geometry.{linearOf, addressOf}
 use Rattle.blocks.specs.Tree.{magicOf}
 use Rattle.blocks.specs.Check.{blockCrc}
@@ -34,3 +34,8 @@ stamped g kind block level numrecs left right b =
     cond (eqb (g .version) 5)
     (withCrc (withBytes b 0 (plainHead kind (g .version) level numrecs left right ++ identityHead g block)))
     (withBytes b 0 (plainHead kind (g .version) level numrecs left right))
+
+-- a block that names other siblings, its check put right
+unfoldable pub relinked : Geometry → ℕ → ℕ → List ℕ → List ℕ
+relinked g left right b =
+    cond (eqb (g .version) 5) (withCrc (withBytes b leftSiblingAt (siblings left right))) (withBytes b leftSiblingAt (siblings left right))

@@ -83,6 +83,9 @@ impl BlockRefusal {
 pub struct Header {
     pub level: u16,
     pub numrecs: u16,
+    // the blocks before and after it on its level, as it names them
+    pub leftsib: AgBlock,
+    pub rightsib: AgBlock,
     // where the records or keys begin
     pub body: usize,
     // how many records or entries the block could hold
@@ -115,10 +118,14 @@ fn check_contents(g: Geometry, kind: TreeKind, level: u16, b: &[u8]) -> Checked
             found: numrecs as u64,
         }));
     }
+    let left = be32(b, offsets::LEFT_SIBLING);
+    let right = be32(b, offsets::RIGHT_SIBLING);
     let body = header_len(version);
     Checked::Good(Header {
         level: level,
         numrecs: numrecs,
+        leftsib: AgBlock(left),
+        rightsib: AgBlock(right),
         body: body,
         maxrecs: maxrecs,
     })

@@ -32,6 +32,8 @@ fn show_good(h: Header) {
     number(b" records ", h.numrecs as u64);
     number(b" body ", h.body as u64);
     number(b" capacity ", h.maxrecs as u64);
+    number(b" left ", h.leftsib.0 as u64);
+    number(b" right ", h.rightsib.0 as u64);
 }
 
 fn show(name: &[u8], answer: Checked) {
@@ -182,6 +184,8 @@ fn damaged() {
     show_damaged(b"address", 16, 1, true);
     show_damaged(b"level", 4, 1, true);
     show_damaged(b"records", 7, 11, true);
+    show_damaged(b"left sibling", 11, 5, true);
+    show_damaged(b"right sibling", 12, 0, true);
     show_damaged(b"level, not sealed", 4, 1, false);
     show_as(b"as counts", TreeKind::Refcount, 7, 1);
     show_as(b"as block 8", TreeKind::Rmap, 8, 1);

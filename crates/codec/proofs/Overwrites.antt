@@ -4,7 +4,7 @@ use mathlib.Core.Path.{_≡_, ap, ap₂, _∙_}
 use mathlib.Core.List.{List, [], _∷_, _++_, append-assoc, reverse, reverse-append}
 use Prim.Native.Nat.{ℕ, zero, suc, _+_, _≤_, _<_}
 use native.Mathlib.Omega.{arith}
-use lib.ListN.{length, take, drop}
+use lib.ListN.{length, take, drop, replicate}
 use lib.Seq.{length-take-le, take-at, drop-at}
 use Rattle.codec.specs.Bytes.{IsBytes, bytesAt, withBytes, beBytes, leBytes}
 use Rattle.codec.proofs.Parts.{drop-after}
@@ -15,6 +15,11 @@ use Rattle.codec.proofs.FieldLists.{isBytes-take, isBytes-drop, isBytes
 isBytes-one : (x : ℕ) → x < 256 → IsBytes (x ∷ [])
 isBytes-one x h zero = h
 isBytes-one x h (suc i) = omega arith
+
+pub isBytes-zeros : (n : ℕ) → IsBytes (replicate n 0)
+isBytes-zeros zero i = omega arith
+isBytes-zeros (suc n) zero = omega arith
+isBytes-zeros (suc n) (suc i) = isBytes-zeros n i
 
 pub isBytes-reverse : (l : List ℕ) → IsBytes l → IsBytes (reverse l)
 isBytes-reverse [] h = h

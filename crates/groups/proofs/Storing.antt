@@ -21,7 +21,7 @@ use Rattle.trees.specs.Build.{planOf}
 use Rattle.walks.specs.WalkCall.{Lent}
 use Rattle.walks.specs.Shapes.{shapeOf}
 use Rattle.trees.specs.RoundTrip.{levelsFor, LongEnough}
-use Rattle.trees.proofs.BlockBytes.{zero-bytes}
+use Rattle.codec.proofs.Overwrites.{isBytes-zeros}
 use Rattle.groups.specs.History.{Lists, Stored, Back, Returned}
 use Rattle.groups.proofs.Example.{last-lists, shares}
 use Rattle.groups.proofs.History.{sharing-claim}
@@ -37,7 +37,7 @@ zero-fits zero = omega arith
 zero-fits (suc i) = omega arith
 
 geometry-fits : Fits geometry
-geometry-fits = record { agno-fits = omega arith; agblocks-fits = omega arith; uuid-long = refl; uuid-bytes = zero-bytes 16 }
+geometry-fits = record { agno-fits = omega arith; agblocks-fits = omega arith; uuid-long = refl; uuid-bytes = isBytes-zeros 16 }
 
 image-length : length image ≡ 512
 image-length = refl

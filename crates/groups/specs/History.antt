@@ -169,7 +169,7 @@ pub record Stored (kind : TreeKind) (list : List ℕ) (g : Geometry) (numbers im
   pub long : trip.LongEnough g kind list numbers lent
 
 -- build accepts it, and the walk of the image, whatever else that holds, from the last block over the planned levels, returns the records byte
--- for byte and the block numbers, both in order, in the planned number of visits
+-- for byte and the block numbers, both in order, in the planned number of visits, and every level is linked
 pub record Back (kind : TreeKind) (list : List ℕ) (g : Geometry) (numbers image : List ℕ) (room : ℕ) (lent : Lent) : Type 0 where
   pub built : buildOutcome g kind list numbers room ≡ done (builtBytes g kind list numbers)
   pub walked : trip.Returned g kind list numbers (stored (g .blocksize) image numbers (builtBytes g kind list numbers)) lent

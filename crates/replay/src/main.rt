@@ -21,6 +21,7 @@ use tree_calls::list_checks::kf_check_rmaps;
 use tree_calls::whole_trees::kf_build;
 use tree_calls::whole_trees::kf_plan;
 use tree_calls::whole_trees::kf_walk;
+use tree_calls::whole_trees::kf_walk_linked;
 
 // A name, and a number in decimal.
 fn print_number(name: &[u8], n: u64) {
@@ -190,7 +191,65 @@ fn numbers_as_due(list: &[u32], due: &[u8]) -> bool {
     true
 }
 
-// The walk of a case, and what it leaves in both scratches: zeros, or what was there before it.
+// The walk of a case, by the call that asks about links too or by the one that does not.
+fn walk_by(
+    head: &[u8],
+    image: &[u8],
+    stack: &mut [u32],
+    scratch: &mut [u64],
+    blocks: &mut [u32],
+    records: &mut [u8],
+    said: &mut [u64; 4],
+) -> u32 {
+    let version = narrow(head, 10);
+    let blocksize = number(head, 11);
+    let agblocks = number(head, 12);
+    let agno = number(head, 13);
+    let high = wide(head, 14);
+    let low = wide(head, 16);
+    let kind = number(head, 18);
+    let root = number(head, 19);
+    let levels = number(head, 20);
+    let call = number(head, 0);
+    if call == 16 || call == 17 {
+        return kf_walk_linked(
+            version,
+            blocksize,
+            agblocks,
+            agno,
+            high,
+            low,
+            kind,
+            image,
+            root,
+            levels,
+            stack,
+            scratch,
+            blocks,
+            records,
+            said,
+        );
+    }
+    kf_walk(
+        version,
+        blocksize,
+        agblocks,
+        agno,
+        high,
+        low,
+        kind,
+        image,
+        root,
+        levels,
+        stack,
+        scratch,
+        blocks,
+        records,
+        said,
+    )
+}
+
+// A walk, and what it leaves in both scratches: zeros, or what was there before it.
 fn walk(
     head: &[u8],
     image: &[u8],
@@ -201,23 +260,7 @@ fn walk(
     records: &mut [u8],
 ) -> bool {
     let mut said = [0xA5u64; 4];
-    let answer = kf_walk(
-        narrow(head, 10),
-        number(head, 11),
-        number(head, 12),
-        number(head, 13),
-        wide(head, 14),
-        wide(head, 16),
-        number(head, 18),
-        image,
-        number(head, 19),
-        number(head, 20),
-        stack,
-        scratch,
-        blocks,
-        records,
-        &mut said,
-    );
+    let answer = walk_by(head, image, stack, scratch, blocks, records, &mut said);
     let left = if number(head, 29) == 0 {
         0xA5A5A5A5u32
     } else {
@@ -411,11 +454,11 @@ fn call_as_due(
         4 => on_block(head, a),
         5 => on_plan(head, a),
         6 => on_build(head, a, b, x, list),
-        7 => on_walk(head, a, b, x),
+        7 | 16 => on_walk(head, a, b, x),
         8 | 9 | 10 => on_edit(head, call, a, x),
         11 => on_release(head, a, x, y),
         12 => on_let_go(head, a, b, x, y, z),
-        13 => on_real_walk(head, b, x),
+        13 | 17 => on_real_walk(head, b, x),
         14 => on_take_held(head, a, b, x, y),
         _ => false,
     }

@@ -1,4 +1,4 @@
--- What the call of a walk says, from the answer that it hands on.
+-- What the calls of a walk and of the link check say, from the answer that they hand on.
 -- Assumes nothing.
 use Prim.Native.Nat.{ℕ}
 use mathlib.Core.Path.{_≡_, ap, _∙_}
@@ -11,13 +11,13 @@ use Rattle.interface.specs.Interface.{numberOf, valueFigures}
 use Rattle.interface.proofs.Saying.{ToldSo}
 use Rattle.tree_calls.specs.WalkFigures.{walkFigures, Reports}
 
-pub reports : {p p′ : Report} {n r : ℕ} {figures said : List ℕ} → Reports p n figures → p ≡ p′ → (r ≡ n) × (said ≡ figures) → Reports p′ r said
-reports h e s =
+pub reports : {fourth : ℕ} {p p′ : Report} {n r : ℕ} {figures said : List ℕ} → Reports fourth p n figures → p ≡ p′ → (r ≡ n) × (said ≡ figures) → Reports fourth p′ r said
+reports {fourth} h e s =
     record {
       number = s .0 ∙ h .number ∙ ap (λ (q : Report). numberOf (q .outcome)) e;
-      figures = s .1 ∙ h .figures ∙ ap (λ (q : Report). walkFigures (q .outcome) (q .passed)) e;
+      figures = s .1 ∙ h .figures ∙ ap (λ (q : Report). walkFigures fourth (q .outcome) (q .passed)) e;
     }
 
-pub refusal-reports : (t : Told) {n r : ℕ} {v : Values} {said : List ℕ} (passed : ℕ) → Tells t n v → ToldSo t passed r said
-    → Reports (record { outcome = refused n v; passed = passed }) r said
+pub refusal-reports : {fourth : ℕ} (t : Told) {n r : ℕ} {v : Values} {said : List ℕ} (passed : ℕ) → Tells t n v → ToldSo t passed r said
+    → Reports fourth (record { outcome = refused n v; passed = passed }) r said
 refusal-reports t passed h s = record { number = s .0 ∙ h .0; figures = s .1 ∙ ap (λ (w : Values). valueFigures w passed) (h .1) }

@@ -1,4 +1,4 @@
--- What a plan and a walk say, from what they come to.
+-- What a plan, a walk and the link check say, from what they come to.
 -- Assumes nothing.
 use Prim.Native.Nat.{ℕ, _<_}
 use native.Mathlib.Omega.{arith}
@@ -15,13 +15,16 @@ use Rattle.trees.specs.declared.plan.PlanRefusal.{PlanRefusal}
 use Rattle.trees.specs.declared.plan.PlanRefusal.the-variants as why
 use Rattle.trees.specs.declared.plan.Planned.{Planned}
 use Rattle.walks.specs.declared.walk.Walked.{Walked}
+use Rattle.walks.specs.declared.walk.Linking.{Linking}
 use Rattle.trees.specs.Plan.{sum}
 use Rattle.trees.specs.PlanAnswer.{PlanIs, planNumber, planValues, planOutcome, answerOutcome, levelsSaid, levelsIn}
+use Rattle.walks.specs.Walk.{Trace}
 use Rattle.walks.specs.WalkCall.{walkOf, lent}
 use Rattle.walks.specs.WalkAnswer.{WalkIs, walkedReport}
+use Rattle.walks.specs.Links.{LinkingIs}
 use Rattle.interface.specs.Interface.{numberOf, Says}
 use Rattle.tree_calls.specs.TreeCalls.{planFigures, placesAfter, PlanSays}
-use Rattle.tree_calls.specs.WalkFigures.{Reports, WalkSays}
+use Rattle.tree_calls.specs.WalkFigures.{Reports, Walks, WalkSays, yesFigure, LinkingSays}
 use Rattle.interface.proofs.Saying.{says}
 use Rattle.tree_calls.proofs.Reporting.{reports}
 
@@ -62,15 +65,27 @@ module _ {g g′ : Geometry} {k k′ : TreeKind} (n : ℕ) {p : Planned} {a r : 
   pub plan-refused : (a ≡ 0 → ⊥) → (levels′ : List ℕ) → levels′ ≡ levels → PlanSays (planOutcome g′ k′ n) r said levels levels′
   plan-refused z levels′ q = rw (← e, ← f) (record { answer = says planFigures (h _ is) refl s; places = q ∙ places-kept (planOutcome g k n) levels (λ t. z (h _ is .number ∙ t)) })
 
--- the call of a walk
-pub walk-said : {g g′ : Geometry} {k k′ : TreeKind} (image : List ℕ) (root levels : ℕ)
-    {w : Walked} {a r : ℕ} {figures said stack stack′ scratch scratch′ blocks blocks′ out out′ : List ℕ} → g ≡ g′ → k ≡ k′
-    → WalkIs (recordLen k) levels (walkOf g k image root levels (lent stack scratch blocks out)) w stack stack′ scratch scratch′ blocks blocks′ out out′
-    → Reports (walkedReport w) a figures → (r ≡ a) × (said ≡ figures)
-    → WalkSays (recordLen k′) levels (walkOf g′ k′ image root levels (lent stack scratch blocks out)) r said stack stack′ scratch scratch′ blocks blocks′ out out′
-walk-said image root levels e f is h s =
-    rw (← e, ← f)
-    (record {
+-- a walk says what it comes to, and leaves it
+walk-says : {fourth w levels : ℕ} {o : Outcome Trace} {walked : Walked} {a r : ℕ} {figures said stack stack′ scratch scratch′ blocks blocks′ out out′ : List ℕ}
+    → WalkIs w levels o walked stack stack′ scratch scratch′ blocks blocks′ out out′ → Reports fourth (walkedReport walked) a figures → (r ≡ a) × (said ≡ figures)
+    → Walks fourth w levels o r said stack stack′ scratch scratch′ blocks blocks′ out out′
+walk-says is h s =
+    record {
       answer = reports h (is .answer) s;
       leaves = record { stack-is = is .stack-is; scratch-is = is .scratch-is; blocks-are = is .blocks-are; records-are = is .records-are };
-    })
+    }
+
+-- the call of a walk, and of the link check
+module _ {g g′ : Geometry} {k k′ : TreeKind} (image : List ℕ) (root levels : ℕ) {a r : ℕ} {figures said stack stack′ scratch scratch′ blocks blocks′ out out′ : List ℕ}
+    (e : g ≡ g′) (f : k ≡ k′) where
+  pub walk-said : {w : Walked}
+      → WalkIs (recordLen k) levels (walkOf g k image root levels (lent stack scratch blocks out)) w stack stack′ scratch scratch′ blocks blocks′ out out′
+      → Reports 0 (walkedReport w) a figures → (r ≡ a) × (said ≡ figures)
+      → WalkSays (recordLen k′) levels (walkOf g′ k′ image root levels (lent stack scratch blocks out)) r said stack stack′ scratch scratch′ blocks blocks′ out out′
+  walk-said is h s = rw (← e, ← f) (walk-says is h s)
+
+  pub linking-said : {w : Linking} {fourth : ℕ}
+      → LinkingIs (g .blocksize) (recordLen k) image levels (walkOf g k image root levels (lent stack scratch blocks out)) w stack stack′ scratch scratch′ blocks blocks′ out out′
+      → fourth ≡ yesFigure (w .linked) → Reports fourth (walkedReport (w .walked)) a figures → (r ≡ a) × (said ≡ figures)
+      → LinkingSays (g′ .blocksize) image (recordLen k′) levels (walkOf g′ k′ image root levels (lent stack scratch blocks out)) r said stack stack′ scratch scratch′ blocks blocks′ out out′
+  linking-said is q h s = rw (← e, ← f, ← is .says, ← q) (walk-says (is .walks) h s)

@@ -11,9 +11,9 @@ use Rattle.interface.specs.Interface.{Says}
 use Rattle.blocks.specs.declared.check.Header.{Header}
 use Rattle.trees.specs.Plan.{sum}
 
--- of a checked block: its level, its records, where they begin and how many it could hold
+-- of a checked block: its records, how many it could hold, and the blocks that it names before and after it on its level
 abbrev pub headerFigures : Header → List ℕ
-headerFigures h = h .level ∷ h .numrecs ∷ h .body ∷ h .maxrecs ∷ []
+headerFigures h = h .numrecs ∷ h .maxrecs ∷ h .leftsib .0 ∷ h .rightsib .0 ∷ []
 
 -- of a plan: its levels, and the blocks of all of them
 abbrev pub planFigures : List ℕ → List ℕ

@@ -1,21 +1,23 @@
--- What a walk says and leaves. Its third figure is a count of visits also where it is refused.
+-- What a walk and the link check say and leave. The third figure is a count of visits also where they are refused.
 -- Assumes nothing.
 use Prim.Native.Nat.{ℕ}
 use mathlib.Core.Path.{_≡_}
+use mathlib.Core.Bool.{Bool, cond}
 use mathlib.Core.List.{List, [], _∷_}
 use Rattle.codec.specs.Question.{Outcome, done, refused}
 use Rattle.walks.specs.Walk.{Trace}
 use Rattle.walks.specs.WalkCall.{Counts, Report, report, scratchAfter, blocksAfter, recordsAfter}
+use Rattle.walks.specs.Links.{saysLinked}
 use Rattle.interface.specs.Interface.{numberOf, valueFigures}
 
--- visits, records and their bytes; of a refusal its two values, then the blocks that passed 13
-abbrev pub walkFigures : Outcome Counts → ℕ → List ℕ
-walkFigures (done c) passed = c .visits ∷ c .records ∷ c .bytes ∷ 0 ∷ []
-walkFigures (refused n v) passed = valueFigures v passed
+-- visits, records, their bytes and a fourth figure; of a refusal its two values, then the blocks that passed 13
+abbrev pub walkFigures : ℕ → Outcome Counts → ℕ → List ℕ
+walkFigures fourth (done c) passed = c .visits ∷ c .records ∷ c .bytes ∷ fourth ∷ []
+walkFigures fourth (refused n v) passed = valueFigures v passed
 
-pub record Reports (p : Report) (r : ℕ) (said : List ℕ) : Type 0 where
+pub record Reports (fourth : ℕ) (p : Report) (r : ℕ) (said : List ℕ) : Type 0 where
   pub number : r ≡ numberOf (p .outcome)
-  pub figures : said ≡ walkFigures (p .outcome) (p .passed)
+  pub figures : said ≡ walkFigures fourth (p .outcome) (p .passed)
 
 -- the four lent slices after a walk that comes to o, of a tree of so many levels
 pub record Leaves (levels : ℕ) (o : Outcome Trace) (stack stack′ scratch scratch′ blocks blocks′ out out′ : List ℕ) : Type 0 where
@@ -24,7 +26,19 @@ pub record Leaves (levels : ℕ) (o : Outcome Trace) (stack stack′ scratch scr
   pub blocks-are : blocks′ ≡ blocksAfter levels o blocks
   pub records-are : out′ ≡ recordsAfter o out
 
--- a walk that comes to o, of records of w bytes
-pub record WalkSays (w levels : ℕ) (o : Outcome Trace) (r : ℕ) (said stack stack′ scratch scratch′ blocks blocks′ out out′ : List ℕ) : Type 0 where
-  pub answer : Reports (report w o) r said
+-- a walk that comes to o, of records of w bytes, with a fourth figure
+pub record Walks (fourth w levels : ℕ) (o : Outcome Trace) (r : ℕ) (said stack stack′ scratch scratch′ blocks blocks′ out out′ : List ℕ) : Type 0 where
+  pub answer : Reports fourth (report w o) r said
   pub leaves : Leaves levels o stack stack′ scratch scratch′ blocks blocks′ out out′
+
+-- the walk's is 0
+abbrev pub WalkSays : (w levels : ℕ) → Outcome Trace → ℕ → (said stack stack′ scratch scratch′ blocks blocks′ out out′ : List ℕ) → Type 0
+WalkSays = Walks 0
+
+-- the link check's is 1 where every level is linked, else 0: of an image of blocks of so many bytes
+abbrev pub yesFigure : Bool → ℕ
+yesFigure so = cond so 1 0
+
+abbrev pub LinkingSays : (size : ℕ) (image : List ℕ) (w levels : ℕ) → Outcome Trace → ℕ
+    → (said stack stack′ scratch scratch′ blocks blocks′ out out′ : List ℕ) → Type 0
+LinkingSays size image w levels o = Walks (yesFigure (saysLinked size image levels o)) w levels o

@@ -10,7 +10,7 @@ ghost use Rattle.trees.specs.PlanAnswer.{PlanIs};
 ghost use Rattle.trees.specs.BuildAnswer.{builtOutcome};
 ghost use Rattle.interface.specs.Interface.{numberOf, Says};
 ghost use Rattle.tree_calls.specs.TreeCalls.{headerFigures, planFigures, buildFigures};
-ghost use Rattle.tree_calls.specs.WalkFigures.{Reports};
+ghost use Rattle.tree_calls.specs.WalkFigures.{Reports, yesFigure};
 use blocks::check::Checked;
 use codec::check::ListChecked;
 use interface::answer::Answer;
@@ -39,10 +39,10 @@ pub(crate) fn checked_answer(checked: Checked) -> Answer
         Checked::Good(h) => Answer {
             number: 0,
             figures: [
-                h.level as u64,
                 h.numrecs as u64,
-                h.body as u64,
                 h.maxrecs as u64,
+                h.leftsib.0 as u64,
+                h.rightsib.0 as u64,
             ],
         },
         Checked::Refused(r) => refused(r.told(), 0),
@@ -63,8 +63,19 @@ pub(crate) fn planned_answer(planned: Planned) -> Answer
     }
 }
 
-pub(crate) fn walked_answer(walked: Walked) -> Answer
-    ensures { λ a. ⌜ Reports (walkedReport walked) (a .number) (a .figures) ⌝ }
+// 1 for yes, 0 for no.
+pub(crate) fn yes_figure(so: bool) -> u64
+    ensures { λ r. ⌜ r ≡ yesFigure so ⌝ }
+{
+    if so {
+        return 1;
+    }
+    0
+}
+
+// With a fourth figure for a walk that read its tree.
+pub(crate) fn walked_answer(walked: Walked, fourth: u64) -> Answer
+    ensures { λ a. ⌜ Reports fourth (walkedReport walked) (a .number) (a .figures) ⌝ }
 {
     match walked {
         Walked::Read {
@@ -73,7 +84,7 @@ pub(crate) fn walked_answer(walked: Walked) -> Answer
             bytes,
         } => Answer {
             number: 0,
-            figures: [visits as u64, records as u64, bytes as u64, 0],
+            figures: [visits as u64, records as u64, bytes as u64, fourth],
         },
         Walked::Refused { refusal, visits } => refused(refusal.told(), visits as u64),
     }

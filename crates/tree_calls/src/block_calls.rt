@@ -30,7 +30,8 @@ pub extern "C" fn kf_crc32c_singly(bytes: &[u8]) -> u32
 }
 
 // Questions 1 to 10 on a block: `block` is its number in the group, `level` the level it should have. The figures of a good block are its
-// level, its records, where they begin and how many it could hold; of a refused one what was expected and what was found.
+// records, how many it could hold, and the blocks that it names before and after it on its level; of a refused one what was expected and what
+// was found.
 #[no_mangle]
 pub extern "C" fn kf_check_block(
     version: u16,

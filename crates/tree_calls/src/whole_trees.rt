@@ -6,10 +6,11 @@ ghost use Rattle.trees.specs.PlanAnswer.{planOutcome};
 ghost use Rattle.walks.specs.WalkCall.{walkOf, lent};
 ghost use Rattle.interface.specs.Interface.{geometryOf, kindOf};
 ghost use Rattle.tree_calls.specs.TreeCalls.{PlanSays, BuildSays};
-ghost use Rattle.tree_calls.specs.WalkFigures.{WalkSays};
+ghost use Rattle.tree_calls.specs.WalkFigures.{WalkSays, LinkingSays};
 use crate::answers::built_answer;
 use crate::answers::planned_answer;
 use crate::answers::walked_answer;
+use crate::answers::yes_figure;
 use blocks::geometry::AgBlock;
 use interface::answer::say;
 use interface::given::geometry;
@@ -17,6 +18,7 @@ use interface::given::tree_kind;
 use trees::build::build;
 use trees::plan::plan;
 use walks::walk::walk;
+use walks::walk::walk_linked;
 
 // The blocks of each level of a tree of so many records, leaves first, and zeros after them: questions 1 and 16. A refusal leaves `levels` as
 // they were. The figures are the levels and the blocks of all of them.
@@ -116,5 +118,49 @@ pub extern "C" fn kf_walk(
         blocks,
         records,
     );
-    say(walked_answer(walked), said)
+    say(walked_answer(walked, 0), said)
+}
+
+// The same walk, and whether every level of the tree is linked: each block names the one before it on its level and the one after, all ones at the
+// ends. The figures are the walk's, the fourth 1 where it is so.
+#[no_mangle]
+pub extern "C" fn kf_walk_linked(
+    version: u16,
+    blocksize: u32,
+    agblocks: u32,
+    agno: u32,
+    uuid_high: u64,
+    uuid_low: u64,
+    kind: u32,
+    image: &[u8],
+    root: u32,
+    levels: u32,
+    stack: &mut [u32],
+    scratch: &mut [u64],
+    blocks: &mut [u32],
+    records: &mut [u8],
+    said: &mut [u64; 4],
+) -> u32
+    ensures { λ r. ⌜ LinkingSays blocksize (now (image .entry)) (recordLen (kindOf kind)) levels
+        (walkOf (geometryOf version blocksize agblocks agno «uuid_high» «uuid_low») (kindOf kind) (now (image .entry)) root levels
+        (lent (now (stack .entry)) (now (scratch .entry)) (now (blocks .entry)) (now (records .entry))))
+        r (now (said .exit)) (now (stack .entry)) (now (stack .exit)) (now (scratch .entry)) (now (scratch .exit))
+        (now (blocks .entry)) (now (blocks .exit)) (now (records .entry)) (now (records .exit)) ⌝ }
+{
+    let g = geometry(version, blocksize, agblocks, agno, uuid_high, uuid_low);
+    let tree = tree_kind(kind);
+    let linking = walk_linked(
+        g,
+        tree,
+        image,
+        AgBlock(root),
+        levels,
+        stack,
+        scratch,
+        blocks,
+        records,
+    );
+    let walked = linking.walked;
+    let linked = linking.linked;
+    say(walked_answer(walked, yes_figure(linked)), said)
 }

@@ -11,9 +11,12 @@ use borrow.Author.Tests.{le-leb}
 use Rattle.codec.specs.Bytes.{IsBytes, bytesAt, beOf, beBytes}
 use Rattle.codec.proofs.FieldLists.{isBytes-take, isBytes-drop, isBytes-append, isBytes-beBytes}
 use Rattle.codec.proofs.Numbers.{length-beBytes, beOf-beBytes-lt}
+use Rattle.codec.proofs.Overwrites.{isBytes-zeros}
+use Rattle.blocks.specs.Geometry.{nullAgBlock}
 use Rattle.trees.specs.Plan.{sum, shares}
-use Rattle.trees.specs.BlockLayout.{Layout, capacity, Sized, Sound}
+use Rattle.trees.specs.BlockLayout.{Links, Layout, Sized, Fresh, Sound}
 use Rattle.walks.specs.Walk.{perLeaf, perNode, Visit, visitOf, good, blockIn, pointers, firstPointer, under, lookIn}
+use Rattle.walks.specs.Links.{next}
 use Rattle.trees.specs.Build.{Child, Part, Block, padded, keysOf, pointersOf, leafPart, nodePart, leafParts, nodeParts, blockBytes, blocksOf, childrenOf, buildAbove, AreNumbers}
 use Rattle.trees.proofs.Sharing.{Shaped, Most, shares-most}
 use Rattle.trees.proofs.LevelWalk.{visitsTo, numbersOf, NodesSeen, AboveSeen, next-length, next-numbers}
@@ -29,6 +32,10 @@ numbers-take (suc n) (x ∷ l) h (suc i) = numbers-take n l (λ j. h (suc j)) i
 
 pub numbers-drop : (n : ℕ) (l : List ℕ) → AreNumbers l → AreNumbers (drop n l)
 numbers-drop n l h i = rw getD-drop (h (n + i))
+
+pub next-small : (l : List ℕ) → AreNumbers l → next l < 2 ^ 32
+next-small [] h = omega arith
+next-small (x ∷ l) h = h 0
 
 children-take : (n : ℕ) (cs : List Child) → numbersOf (take n cs) ≡ take n (numbersOf cs)
 unfolding numbersOf
@@ -78,13 +85,8 @@ Held t image [] = Unit {0}
 Held t image (b ∷ bs) =
     ((b .number + 1) * t .shape .size ≤ length image) × (blockIn (t .shape .size) image (b .number) ≡ b .bytes) × Held t image bs
 
-pub zero-bytes : (n : ℕ) → IsBytes (replicate n 0)
-zero-bytes zero i = omega arith
-zero-bytes (suc n) zero = omega arith
-zero-bytes (suc n) (suc i) = zero-bytes n i
-
 padded-bytes : (n : ℕ) (l : List ℕ) → IsBytes l → IsBytes (padded n l)
-padded-bytes n l h = isBytes-append l (replicate (n - length l) 0) h (zero-bytes (n - length l))
+padded-bytes n l h = isBytes-append l (replicate (n - length l) 0) h (isBytes-zeros (n - length l))
 
 pointers-bytes : (cs : List Child) → IsBytes (pointersOf cs)
 unfolding pointersOf
@@ -95,7 +97,7 @@ module _ (t : Layout) where
   abbrev pub roomy : Part → Type 0
   roomy p = t .shape .header + length (p .body) ≤ t .shape .size
 
-  abbrev fresh : Part → List ℕ
+  abbrev pub fresh : Part → List ℕ
   fresh p = padded (t .shape .size) (replicate (t .shape .header) 0 ++ p .body)
 
 module _ (t : Layout) (s : Sized t) where
@@ -107,8 +109,8 @@ module _ (t : Layout) (s : Sized t) where
   fresh-length : (p : Part) → roomy t p → length (fresh t p) ≡ t .shape .size
   fresh-length p h = padded-length (t .shape .size) (replicate (t .shape .header) 0 ++ p .body) (omega (arith, length-append (replicate (t .shape .header) 0) (p .body), length-replicate {A = ℕ} (t .shape .header) 0))
 
-  pub block-length : (level n : ℕ) (p : Part) → roomy t p → length (blockBytes t level n p) ≡ t .shape .size
-  block-length level n p h = s .stamp-long n level (p .count) (fresh t p) (fresh-length p h)
+  pub block-length : (level n : ℕ) (x : Links) (p : Part) → roomy t p → length (blockBytes t level n x p) ≡ t .shape .size
+  block-length level n x p h = s .stamp-long n level (p .count) x (fresh t p) (fresh-length p h)
 
   pub leaf-roomy : (c : ℕ) (bytes : List ℕ) → c ≤ perLeaf (t .shape) → length bytes ≤ c * t .shape .record-length → roomy t (leafPart c bytes)
   leaf-roomy c bytes h k = omega (arith, mul-le-mul-right (t .shape .record-length) h, div-mul-le-self (t .shape .size - t .shape .header) (t .shape .record-length), s .header-fits)
@@ -127,64 +129,97 @@ module _ (t : Layout) (s : Sound t) where
   keys-bytes [] = λ i. omega arith
   keys-bytes (c ∷ cs) = isBytes-append (t .keys (c .below)) (keysOf (t .keys) cs) (s .keys-bytes (c .below)) (keys-bytes cs)
 
-  node-bytes : (cs : List Child) → IsBytes (nodePart t cs .body)
+  pub node-bytes : (cs : List Child) → IsBytes (nodePart t cs .body)
   node-bytes cs =
       isBytes-append (padded (perNode (t .shape) * t .shape .keys-length) (keysOf (t .keys) cs)) (pointersOf cs)
       (padded-bytes (perNode (t .shape) * t .shape .keys-length) (keysOf (t .keys) cs) (keys-bytes cs)) (pointers-bytes cs)
 
-  fresh-bytes : (p : Part) → IsBytes (p .body) → IsBytes (fresh t p)
-  fresh-bytes p h = padded-bytes (t .shape .size) (replicate (t .shape .header) 0 ++ p .body) (isBytes-append (replicate (t .shape .header) 0) (p .body) (zero-bytes (t .shape .header)) h)
+  pub fresh-bytes : (p : Part) → IsBytes (p .body) → IsBytes (fresh t p)
+  fresh-bytes p h = padded-bytes (t .shape .size) (replicate (t .shape .header) 0 ++ p .body) (isBytes-append (replicate (t .shape .header) 0) (p .body) (isBytes-zeros (t .shape .header)) h)
 
   -- after the header stands the body, then zeros
   abbrev rest : Part → List ℕ
   rest p = replicate (t .shape .size - length (replicate (t .shape .header) 0 ++ p .body)) 0
 
-  block-body : (level n : ℕ) (p : Part) → roomy t p → drop (t .shape .header) (blockBytes t level n p) ≡ p .body ++ rest p
-  block-body level n p h =
-      s .stamp-body n level (p .count) (fresh t p) (fresh-length t (s .sized) p h)
+  block-body : (level n : ℕ) (x : Links) (p : Part) → roomy t p → drop (t .shape .header) (blockBytes t level n x p) ≡ p .body ++ rest p
+  block-body level n x p h =
+      s .stamp-body n level (p .count) x (fresh t p) (fresh-length t (s .sized) p h)
       ∙ ap (drop (t .shape .header)) (append-assoc (replicate (t .shape .header) 0) (p .body) (rest p))
       ∙ drop-at (replicate (t .shape .header) 0) (p .body ++ rest p) (t .shape .header) (length-replicate {A = ℕ} (t .shape .header) 0)
 
-  pub leaf-shows : (n c : ℕ) (bytes : List ℕ) → c ≤ perLeaf (t .shape) → length bytes ≡ c * t .shape .record-length → under (t .shape) (blockBytes t 0 n (leafPart c bytes)) 0 c ≡ good [] bytes
+  pub leaf-shows : (n : ℕ) (x : Links) (c : ℕ) (bytes : List ℕ) → c ≤ perLeaf (t .shape) → length bytes ≡ c * t .shape .record-length
+      → under (t .shape) (blockBytes t 0 n x (leafPart c bytes)) 0 c ≡ good [] bytes
   unfolding under bytesAt
-  leaf-shows n c bytes h k =
-      ap (λ (l : List ℕ). good [] (take (c * t .shape .record-length) l)) (block-body 0 n (leafPart c bytes) (leaf-roomy t (s .sized) c bytes h (omega arith)))
+  leaf-shows n x c bytes h k =
+      ap (λ (l : List ℕ). good [] (take (c * t .shape .record-length) l)) (block-body 0 n x (leafPart c bytes) (leaf-roomy t (s .sized) c bytes h (omega arith)))
       ∙ ap (good []) (take-at bytes (rest (leafPart c bytes)) (c * t .shape .record-length) k)
 
-  pub node-shows : (n l : ℕ) (cs : List Child) → AreNumbers (numbersOf cs) → length cs ≤ perNode (t .shape) → under (t .shape) (blockBytes t (suc l) n (nodePart t cs)) (suc l) (length cs) ≡ good (visitsTo l cs) []
+  pub node-shows : (n : ℕ) (y : Links) (l : ℕ) (cs : List Child) → AreNumbers (numbersOf cs) → length cs ≤ perNode (t .shape)
+      → under (t .shape) (blockBytes t (suc l) n y (nodePart t cs)) (suc l) (length cs) ≡ good (visitsTo l cs) []
   unfolding under
-  node-shows n l cs a h =
-      let b : List ℕ = blockBytes t (suc l) n (nodePart t cs) in
+  node-shows n y l cs a h =
+      let b : List ℕ = blockBytes t (suc l) n y (nodePart t cs) in
       let k : List ℕ = padded (perNode (t .shape) * t .shape .keys-length) (keysOf (t .keys) cs) in
       let q : List ℕ = rest (nodePart t cs) in
       let p : List ℕ = take (t .shape .header) b ++ k in
-      let z : length b ≡ t .shape .size = block-length t (s .sized) (suc l) n (nodePart t cs) (node-roomy t (s .sized) cs h) in
+      let z : length b ≡ t .shape .size = block-length t (s .sized) (suc l) n y (nodePart t cs) (node-roomy t (s .sized) cs h) in
       let e : length p ≡ firstPointer (t .shape) = omega (arith, length-append (take (t .shape .header) b) k, keys-room t (s .sized) cs h, length-take-le (t .shape .header) b (omega (arith, s .sized .header-fits))) in
       let is : b ≡ p ++ (pointersOf cs ++ q) =
       sym (take-append-drop (t .shape .header) b)
-      ∙ ap (λ (x : List ℕ). take (t .shape .header) b ++ x) (block-body (suc l) n (nodePart t cs) (node-roomy t (s .sized) cs h) ∙ append-assoc k (pointersOf cs) q)
+      ∙ ap (λ (x : List ℕ). take (t .shape .header) b ++ x) (block-body (suc l) n y (nodePart t cs) (node-roomy t (s .sized) cs h) ∙ append-assoc k (pointersOf cs) q)
       ∙ sym (append-assoc (take (t .shape .header) b) k (pointersOf cs ++ q)) in
       ap (λ (vs : List Visit). good vs []) (ap (λ (x : List ℕ). pointers x (firstPointer (t .shape)) l (length cs)) is ∙ pointers-read l cs p q (firstPointer (t .shape)) a e)
 
+  -- a node and a leaf, before the stamp
+  pub fresh-node : (n l left : ℕ) (ns : List ℕ) (cs : List Child) → n < 2 ^ 32 → suc l ≤ 9 → left < 2 ^ 32 → AreNumbers ns → length cs ≤ perNode (t .shape)
+      → Fresh (t .shape) n (suc l) (length cs) (record { left = left; right = next ns }) (fresh t (nodePart t cs))
+  fresh-node n l left ns cs a f b c k =
+      record {
+        number-fits = a;
+        level-fits = f;
+        left-fits = b;
+        right-fits = next-small ns c;
+        are-bytes = fresh-bytes (nodePart t cs) (node-bytes cs);
+        long = fresh-length t (s .sized) (nodePart t cs) (node-roomy t (s .sized) cs k);
+        most = k;
+      }
+
+  pub fresh-leaf : (n left : ℕ) (ns : List ℕ) (c : ℕ) (bytes : List ℕ) → n < 2 ^ 32 → left < 2 ^ 32 → AreNumbers ns → IsBytes bytes
+      → c ≤ perLeaf (t .shape) → length bytes ≤ c * t .shape .record-length
+      → Fresh (t .shape) n 0 c (record { left = left; right = next ns }) (fresh t (leafPart c bytes))
+  fresh-leaf n left ns c bytes a b d y k m =
+      record {
+        number-fits = a;
+        level-fits = omega arith;
+        left-fits = b;
+        right-fits = next-small ns d;
+        are-bytes = fresh-bytes (leafPart c bytes) y;
+        long = fresh-length t (s .sized) (leafPart c bytes) (leaf-roomy t (s .sized) c bytes k m);
+        most = k;
+      }
+
   module _ (image : List ℕ) where
     -- a look at a block that the image holds
-    pub held-shows : (n l : ℕ) (p : Part) → n < 2 ^ 32 → l ≤ 9 → IsBytes (p .body) → roomy t p → p .count ≤ capacity (t .shape) l → (n + 1) * t .shape .size ≤ length image → blockIn (t .shape .size) image n ≡ blockBytes t l n p
-        → lookIn (t .shape) image (visitOf n l) ≡ under (t .shape) (blockBytes t l n p) l (p .count)
+    pub held-shows : (n l : ℕ) (x : Links) (p : Part) → Fresh (t .shape) n l (p .count) x (fresh t p) → (n + 1) * t .shape .size ≤ length image
+        → blockIn (t .shape .size) image n ≡ blockBytes t l n x p
+        → lookIn (t .shape) image (visitOf n l) ≡ under (t .shape) (blockBytes t l n x p) l (p .count)
     unfolding lookIn
-    held-shows n l p a f y r c inside is = rw (le-leb ((n + 1) * t .shape .size) (length image) inside, is, s .stamp-passes n l (p .count) (fresh t p) a f (fresh-bytes p y) (fresh-length t (s .sized) p r) c)
+    held-shows n l x p f inside is = rw (le-leb ((n + 1) * t .shape .size) (length image) inside, is, s .stamp-passes n l (p .count) x (fresh t p) f)
 
     pub held-both : (xs ys : List Block) → Held t image (xs ++ ys) → Held t image xs × Held t image ys
     held-both [] ys h = (tt, h)
     held-both (x ∷ xs) ys h = let r = held-both xs ys (h .2) in ((h .0, h .1, r .0), r .1)
 
-    pub nodes-seen : (l : ℕ) (ns counts : List ℕ) (cs : List Child) → AreNumbers ns → AreNumbers (numbersOf cs) → suc l ≤ 9 → Most (perNode (t .shape)) counts → Held t image (blocksOf t (suc l) ns (nodeParts t counts cs)) → NodesSeen t (lookIn (t .shape) image) l ns counts cs
+    pub nodes-seen : (l left : ℕ) (ns counts : List ℕ) (cs : List Child) → left < 2 ^ 32 → AreNumbers ns → AreNumbers (numbersOf cs) → suc l ≤ 9 → Most (perNode (t .shape)) counts
+        → Held t image (blocksOf t (suc l) left ns (nodeParts t counts cs)) → NodesSeen t (lookIn (t .shape) image) l ns counts cs
     unfolding blocksOf nodeParts
-    nodes-seen l [] counts cs a b f m h = tt
-    nodes-seen l (n ∷ ns) [] cs a b f m h = tt
-    nodes-seen l (n ∷ ns) (c ∷ counts) cs a b f m h =
+    nodes-seen l left [] counts cs z a b f m h = tt
+    nodes-seen l left (n ∷ ns) [] cs z a b f m h = tt
+    nodes-seen l left (n ∷ ns) (c ∷ counts) cs z a b f m h =
         let k : length (take c cs) ≤ perNode (t .shape) = omega (arith, length-take c cs, m .0) in (
-          held-shows n (suc l) (nodePart t (take c cs)) (a 0) f (node-bytes (take c cs)) (node-roomy t (s .sized) (take c cs) k) k (h .0) (h .1) ∙ node-shows n l (take c cs) (rw (children-take c cs) (numbers-take c (numbersOf cs) b)) k,
-          nodes-seen l ns counts (drop c cs) (λ i. a (suc i)) (rw (children-drop c cs) (numbers-drop c (numbersOf cs) b)) f (m .1) (h .2),
+          held-shows n (suc l) (record { left = left; right = next ns }) (nodePart t (take c cs)) (fresh-node n l left ns (take c cs) (a 0) f z (λ i. a (suc i)) k) (h .0) (h .1)
+              ∙ node-shows n (record { left = left; right = next ns }) l (take c cs) (rw (children-take c cs) (numbers-take c (numbersOf cs) b)) k,
+          nodes-seen l n ns counts (drop c cs) (a 0) (λ i. a (suc i)) (rw (children-drop c cs) (numbers-drop c (numbersOf cs) b)) f (m .1) (h .2),
         )
 
     pub above-seen : (l : ℕ) (ks nums : List ℕ) (cs : List Child) → AreNumbers nums → AreNumbers (numbersOf cs) → l + length ks ≤ 9 → Shaped (perNode (t .shape)) (length cs) ks → length nums ≡ sum ks → Held t image (buildAbove t (suc l) ks nums cs) → AboveSeen t (lookIn (t .shape) image) l ks nums cs
@@ -195,19 +230,21 @@ module _ (t : Layout) (s : Sound t) where
         let cs′ : List Child = childrenOf (take k nums) ps in
         let i : length cs′ ≡ k = next-length t k nums cs (omega arith) in
         let j : numbersOf cs′ ≡ take k nums = next-numbers t k nums cs (omega arith) in
-        let b = held-both (blocksOf t (suc l) (take k nums) ps) (buildAbove t (suc (suc l)) ks (drop k nums) cs′) h in (
-          nodes-seen l (take k nums) (shares (length cs) k) cs (numbers-take k nums a) d (omega arith) (shares-most (length cs) k 0 k (perNode (t .shape)) (e .0) (e .1)) (b .0),
+        let b = held-both (blocksOf t (suc l) nullAgBlock (take k nums) ps) (buildAbove t (suc (suc l)) ks (drop k nums) cs′) h in (
+          nodes-seen l nullAgBlock (take k nums) (shares (length cs) k) cs (omega arith) (numbers-take k nums a) d (omega arith) (shares-most (length cs) k 0 k (perNode (t .shape)) (e .0) (e .1)) (b .0),
           above-seen (suc l) ks (drop k nums) cs′ (numbers-drop k nums a) (rw j (numbers-take k nums a)) (omega arith) (subst (λ (x : ℕ). Shaped (perNode (t .shape)) x ks) (sym i) (e .2)) (omega (arith, length-drop k nums)) (b .1),
         )
 
-    pub leaves-seen : (ns counts bytes : List ℕ) → AreNumbers ns → IsBytes bytes → Most (perLeaf (t .shape)) counts → sum counts * t .shape .record-length ≤ length bytes → Held t image (blocksOf t 0 ns (leafParts t counts bytes)) → LeavesSeen t (lookIn (t .shape) image) ns counts bytes
+    pub leaves-seen : (left : ℕ) (ns counts bytes : List ℕ) → left < 2 ^ 32 → AreNumbers ns → IsBytes bytes → Most (perLeaf (t .shape)) counts
+        → sum counts * t .shape .record-length ≤ length bytes → Held t image (blocksOf t 0 left ns (leafParts t counts bytes)) → LeavesSeen t (lookIn (t .shape) image) ns counts bytes
     unfolding blocksOf leafParts sum
-    leaves-seen [] counts bytes a y m e h = tt
-    leaves-seen (n ∷ ns) [] bytes a y m e h = tt
-    leaves-seen (n ∷ ns) (c ∷ counts) bytes a y m e h =
+    leaves-seen left [] counts bytes z a y m e h = tt
+    leaves-seen left (n ∷ ns) [] bytes z a y m e h = tt
+    leaves-seen left (n ∷ ns) (c ∷ counts) bytes z a y m e h =
         let w : ℕ = t .shape .record-length in
         let f : (c + sum counts) * w ≡ c * w + sum counts * w = add-mul c (sum counts) w in
         let k : length (take (c * w) bytes) ≡ c * w = length-take-le (c * w) bytes (omega arith) in (
-          held-shows n 0 (leafPart c (take (c * w) bytes)) (a 0) (omega arith) (isBytes-take (c * w) bytes y) (leaf-roomy t (s .sized) c (take (c * w) bytes) (m .0) (omega arith)) (m .0) (h .0) (h .1) ∙ leaf-shows n c (take (c * w) bytes) (m .0) k,
-          leaves-seen ns counts (drop (c * w) bytes) (λ i. a (suc i)) (isBytes-drop (c * w) bytes y) (m .1) (omega (arith, length-drop (c * w) bytes)) (h .2),
+          held-shows n 0 (record { left = left; right = next ns }) (leafPart c (take (c * w) bytes)) (fresh-leaf n left ns c (take (c * w) bytes) (a 0) z (λ i. a (suc i)) (isBytes-take (c * w) bytes y) (m .0) (omega arith)) (h .0) (h .1)
+              ∙ leaf-shows n (record { left = left; right = next ns }) c (take (c * w) bytes) (m .0) k,
+          leaves-seen n ns counts (drop (c * w) bytes) (a 0) (λ i. a (suc i)) (isBytes-drop (c * w) bytes y) (m .1) (omega (arith, length-drop (c * w) bytes)) (h .2),
         )

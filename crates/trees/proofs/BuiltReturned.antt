@@ -4,7 +4,7 @@ use Prim.Native.Nat.{ℕ, _-_, _*_, _/_, _%_, _≤_, max}
 use native.Mathlib.Nat.{div-add-mod'}
 use native.Mathlib.Omega.{arith}
 use mathlib.Core.Path.{_≡_, refl, sym, ap, ap₂, _∙_, subst}
-use mathlib.Core.Bool.{true}
+use mathlib.Core.Bool.{true, false}
 use mathlib.Core.List.{List, [], _∷_}
 use lib.ListN.{length}
 use borrow.Author.Tests.{le-leb, leb-true, eqb-true}
@@ -20,6 +20,7 @@ use Rattle.trees.specs.Plan.{sum, levelsOf}
 use Rattle.walks.specs.Walk.{Shape, perNode, Trace, finished, spent, failed, met, visitOf, run, fit, visits, records, ending, byLevel, lookIn}
 use Rattle.walks.specs.WalkCall.{Lent, reportOf, ifFinished, walkIn, report, blocksAfter, recordsAfter}
 use Rattle.walks.specs.Memory.{zeros}
+use Rattle.walks.specs.Links.{leftsibOf, rightsibOf, levelsLinked, saysLinked}
 use Rattle.trees.specs.BlockLayout.{Sound}
 use Rattle.trees.specs.Build.{planOf, build, rootOf, AreNumbers, Holds, Places, stored}
 use Rattle.walks.specs.Shapes.{shapeOf}
@@ -28,6 +29,7 @@ use Rattle.trees.specs.RoundTrip.{levelsFor, LongEnough, walkBack, Retur
 use Rattle.trees.proofs.TreeKinds.{sound}
 use Rattle.trees.proofs.Stored.{Made, output-length, build-made, held-blocks, stored-held}
 use Rattle.trees.proofs.WalkedBack.{Back, built-returned}
+use Rattle.trees.proofs.LinkedBack.{built-linked}
 
 -- ---- what a finished walk comes to
 
@@ -38,7 +40,7 @@ finished-report w v b spent e = let z : _≡_ {A = ℕ} 0 1 = cc in absurd (omeg
 finished-report w v b (failed n x) e = let z : _≡_ {A = ℕ} 0 1 = cc in absurd (omega arith)
 finished-report w v b (met x bytes t) e = finished-report w v b t e
 
-finished-after : {A : Type 0} (x y : A) (t : Trace) → ending t ≡ finished → ifFinished t x y ≡ x
+pub finished-after : {A : Type 0} (x y : A) (t : Trace) → ending t ≡ finished → ifFinished t x y ≡ x
 unfolding ending
 finished-after x y finished e = refl
 finished-after x y spent e = let z : _≡_ {A = ℕ} 0 1 = cc in absurd (omega arith)
@@ -97,7 +99,7 @@ module _
         let sh : Shape = shapeOf g kind in
         let n : ℕ = length list / recordLen kind in
         let v : Trace = run (lookIn sh image) limit (visitOf (rootOf numbers) (levels - 1) ∷ []) in
-        let back : Back levels numbers list v =
+        let back : Back (planOf sh list) numbers list v =
         built-returned (layoutOf g kind) s image numbers list n limit (whole-records (recordLen kind) list (asked .0 .1 .1 .0)) few planned small list-bytes
         (held-blocks (layoutOf g kind) image (build (layoutOf g kind) numbers list) numbers made (subst (Holds (g .blocksize) image numbers) (sym (asked .1)) held)) within in
         let fit-same : fit (m .blocks) (m .bytes) v ≡ v = back .fits (m .blocks) (m .bytes) (long .blocks) (long .bytes) in
@@ -117,6 +119,11 @@ module _
               ap (λ (o : Outcome Trace). blocksAfter levels o l) is
               ∙ finished-after (withBytes l 0 (byLevel levels (visits v))) (zeros l) v (back .ended)
               ∙ ap (withBytes l 0) (back .by-level);
+          linked =
+              ap (saysLinked (g .blocksize) image levels) is
+              ∙ finished-after (levelsLinked (leftsibOf (g .blocksize) image) (rightsibOf (g .blocksize) image) levels (visits v)) false v (back .ended)
+              ∙ built-linked (layoutOf g kind) s image numbers list n (visits v) (whole-records (recordLen kind) list (asked .0 .1 .1 .0)) few planned small list-bytes
+              (held-blocks (layoutOf g kind) image (build (layoutOf g kind) numbers list) numbers made (subst (Holds (g .blocksize) image numbers) (sym (asked .1)) held)) (back .tops);
         }
 
     -- and from any image in which it was stored at distinct numbers

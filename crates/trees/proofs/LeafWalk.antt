@@ -14,7 +14,7 @@ use Rattle.trees.specs.Build.{Child, leafParts, childrenOf}
 use Rattle.trees.proofs.InStep.{flat, Along}
 use Rattle.walks.proofs.Steps.{Step, stepOf, visitsIn, recordsIn, levelIn, level-this, level-other, Walked, walked-none, walked-block}
 use Rattle.trees.proofs.Sharing.{Shaped, shares-length, shares-sum}
-use Rattle.trees.proofs.LevelWalk.{numbersOf, numbers-length, numbers-of-children, Rooted, Level, Whole, AboveSeen, whole}
+use Rattle.trees.proofs.LevelWalk.{numbersOf, numbers-length, numbers-of-children, Rooted, Tops, Level, Whole, AboveSeen, whole}
 
 pub leaf-parts-length : (t : Layout) (counts bytes : List ℕ) → length (leafParts t counts bytes) ≡ length counts
 unfolding leafParts
@@ -77,12 +77,13 @@ module _ (t : Layout) where
     leaves-walked (n ∷ ns) (c ∷ counts) bytes s = (walked-block look (visitOf n 0) [] (take (c * w) bytes) [] (s .0) (walked-none look), leaves-walked ns counts (drop (c * w) bytes) (s .1))
 
     -- the tree of a plan: the walk of its root, whatever is due after it
-    pub record Tree (levels : ℕ) (numbers bytes : List ℕ) : Type 0 where
+    pub record Tree (plan numbers bytes : List ℕ) : Type 0 where
       pub steps : List Step
-      pub walked : Walked look (visitOf (getD numbers (length numbers - 1) 0) (levels - 1) ∷ []) steps
+      pub walked : Walked look (visitOf (getD numbers (length numbers - 1) 0) (length plan - 1) ∷ []) steps
       pub in-order : recordsIn steps ≡ bytes
-      pub by-level : byLevel levels (visitsIn steps) ≡ numbers
+      pub by-level : byLevel (length plan) (visitsIn steps) ≡ numbers
       pub visited : length steps ≡ length numbers
+      pub tops : Tops 0 plan numbers (visitsIn steps)
 
     module _ (p k : ℕ) (ks numbers bytes : List ℕ) (n : ℕ)
         (some : 0 < k) (shaped : Shaped p k ks) (long : length numbers ≡ k + sum ks) (are : length bytes ≡ n * w)
@@ -126,7 +127,7 @@ module _ (t : Layout) where
         unfolding byLevel
         leaves-by-level = leaf-numbers ns counts bytes in-step
 
-        pub tree : Tree (suc (length ks)) numbers bytes
+        pub tree : Tree (k ∷ ks) numbers bytes
         tree =
             let v : Whole t look 0 ks (drop k numbers) cs ts = leaves-whole in
             let top : 0 + length ks ≡ suc (length ks) - 1 = omega arith in
@@ -143,4 +144,5 @@ module _ (t : Layout) where
                   ∙ ap (λ (l : List ℕ). l ++ drop k numbers) leaves-by-level
                   ∙ take-append-drop k numbers;
               visited = omega (arith, v .visited, leaf-count ns counts bytes in-step, length-drop k numbers, ns-length);
+              tops = (v .below 0 (omega arith) ∙ leaf-numbers ns counts bytes in-step, v .tops);
             }

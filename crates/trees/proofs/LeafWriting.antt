@@ -12,10 +12,12 @@ use lib.Seq.{drop-drop, drop-cons}
 use Rattle.codec.specs.Bytes.{withBytes}
 use Rattle.blocks.specs.declared.geometry.Geometry.{Geometry}
 use Rattle.blocks.specs.declared.kind.TreeKind.{TreeKind}
+use Rattle.blocks.specs.Geometry.{nullAgBlock}
 use Rattle.blocks.specs.Tree.{headerLen, recordLen}
 use Rattle.trees.specs.Plan.{sum, shareOf, sharesFrom, shares}
 use Rattle.walks.specs.Walk.{perLeaf}
-use Rattle.trees.specs.BlockLayout.{Layout, Sized}
+use Rattle.walks.specs.Links.{next}
+use Rattle.trees.specs.BlockLayout.{Links, Layout, Sized}
 use Rattle.trees.specs.Build.{Block, output, leafPart, leafParts, blocksOf, blockBytes}
 use Rattle.trees.specs.BuildCall.{layoutOf}
 use Rattle.trees.specs.inner.BuildNeeds.{Leaves}
@@ -42,54 +44,59 @@ module _ (g : Geometry) (kind : TreeKind) (list blocks : List ℕ) where
   abbrev k : ℕ
   k = length blocks
 
-  -- the leaves from the i-th on, whose records begin at a byte
-  abbrev pub leavesFrom : ℕ → ℕ → List Block
-  leavesFrom i from = blocksOf t 0 (drop i blocks) (leafParts t (sharesFrom n k i (k - i)) (drop from list))
+  -- the leaves from the i-th on, whose records begin at a byte, and before which `left` stands
+  abbrev pub leavesFrom : ℕ → ℕ → ℕ → List Block
+  leavesFrom i from left = blocksOf t 0 left (drop i blocks) (leafParts t (sharesFrom n k i (k - i)) (drop from list))
 
-  abbrev leaf : ℕ → ℕ → ℕ → Block
-  leaf i from c = record { number = getD blocks i 0; bytes = blockBytes t 0 (getD blocks i 0) (leafPart c (take (c * w) (drop from list))) }
+  -- the neighbours of the i-th
+  abbrev pub beside : ℕ → ℕ → Links
+  beside i left = record { left = left; right = next (drop (i + 1) blocks) }
 
-  leaves-next : (i from : ℕ) → i < k → leavesFrom i from ≡ leaf i from (shareOf n k i) ∷ leavesFrom (i + 1) (from + shareOf n k i * w)
+  abbrev leaf : ℕ → ℕ → ℕ → ℕ → Block
+  leaf i from left c = record { number = getD blocks i 0; bytes = blockBytes t 0 (getD blocks i 0) (beside i left) (leafPart c (take (c * w) (drop from list))) }
+
+  leaves-next : (i from left : ℕ) → i < k → leavesFrom i from left ≡ leaf i from left (shareOf n k i) ∷ leavesFrom (i + 1) (from + shareOf n k i * w) (getD blocks i 0)
   unfolding blocksOf leafParts sharesFrom
-  leaves-next i from h =
+  leaves-next i from left h =
       let less : k - i ≡ suc (k - (i + 1)) = omega arith in
       rw (less, drop-cons blocks i 0 h, add-one i, drop-drop (shareOf n k i * w) from list)
 
-  leaves-end : (i from : ℕ) → i ≡ k → leavesFrom i from ≡ []
+  leaves-end : (i from left : ℕ) → i ≡ k → leavesFrom i from left ≡ []
   unfolding blocksOf
-  leaves-end i from e = rw (drop-of-length-le blocks {i = i} (omega arith))
+  leaves-end i from left e = rw (drop-of-length-le blocks {i = i} (omega arith))
 
   -- the loop's invariant
-  pub record LeavesSo (before out : List ℕ) (i from : ℕ) : Type 0 where
+  pub record LeavesSo (before out : List ℕ) (i from left : ℕ) : Type 0 where
     pub most : i ≤ k
-    pub written : Written before out (output (leavesFrom 0 0)) (i * g .blocksize) (leavesFrom i from)
+    pub written : Written before out (output (leavesFrom 0 0 nullAgBlock)) (i * g .blocksize) (leavesFrom i from left)
     pub all : from + sum (sharesFrom n k i (k - i)) * w ≡ length list
 
-  pub leaves-start : (before : List ℕ) → Leaves g kind list blocks before → LeavesSo before before 0 0
+  pub leaves-start : (before : List ℕ) → Leaves g kind list blocks before → LeavesSo before before 0 0 nullAgBlock
   leaves-start before q =
       record {
         most = omega arith;
-        written = rw zero-mul (written-none before (output (leavesFrom 0 0)) (leavesFrom 0 0) refl);
+        written = rw zero-mul (written-none before (output (leavesFrom 0 0 nullAgBlock)) (leavesFrom 0 0 nullAgBlock) refl);
         all = rw (sub-zero, zero-add) (ap (λ (x : ℕ). x * w) (shares-sum n k (q .some)) ∙ q .given .whole);
       }
 
-  pub leaves-done : (before out : List ℕ) (i from : ℕ) → LeavesSo before out i from → i ≡ k
-      → out ≡ withBytes before 0 (output (blocksOf t 0 blocks (leafParts t (shares n k) list)))
-  leaves-done before out i from s e =
-      written-all before out (output (leavesFrom 0 0)) (i * g .blocksize) (subst (Written before out (output (leavesFrom 0 0)) (i * g .blocksize)) (leaves-end i from e) (s .written))
+  pub leaves-done : (before out : List ℕ) (i from left : ℕ) → LeavesSo before out i from left → i ≡ k
+      → out ≡ withBytes before 0 (output (blocksOf t 0 nullAgBlock blocks (leafParts t (shares n k) list)))
+  leaves-done before out i from left s e =
+      written-all before out (output (leavesFrom 0 0 nullAgBlock)) (i * g .blocksize) (subst (Written before out (output (leavesFrom 0 0 nullAgBlock)) (i * g .blocksize)) (leaves-end i from left e) (s .written))
       ∙ rw (sub-zero) refl
 
   -- what a round needs and leaves, where r is the block's share and v the record's length
-  pub record LeafRound (before out : List ℕ) (i from r v : ℕ) : Type 0 where
+  pub record LeafRound (before out : List ℕ) (i from left r v : ℕ) : Type 0 where
     pub inside : from + r * v ≤ length list
     pub room : headerLen (g .version) + r * v ≤ g .blocksize
     pub small : r < 2 ^ 16
     pub ends : i * g .blocksize + g .blocksize ≤ length before
-    pub next : (ys : List ℕ) → ys ≡ blockBytes t 0 (getD blocks i 0) (leafPart r (take (from + r * v - from) (drop from list)))
-        → LeavesSo before (putMid (i * g .blocksize) (i * g .blocksize + g .blocksize - i * g .blocksize) out ys) (i + 1) (from + r * v)
+    pub next : (right : ℕ) (ys : List ℕ) → right ≡ beside i left .right
+        → ys ≡ blockBytes t 0 (getD blocks i 0) (record { left = left; right = right }) (leafPart r (take (from + r * v - from) (drop from list)))
+        → LeavesSo before (putMid (i * g .blocksize) (i * g .blocksize + g .blocksize - i * g .blocksize) out ys) (i + 1) (from + r * v) (getD blocks i 0)
 
-  module _ (before out : List ℕ) (i from r v : ℕ) (q : Leaves g kind list blocks before) (uuid : length (g .«meta_uuid») ≡ 16)
-      (s : LeavesSo before out i from) (h : i < k) (ve : v ≡ w) (re : r ≡ shareOf (length list / v) k i) where
+  module _ (before out : List ℕ) (i from left r v : ℕ) (q : Leaves g kind list blocks before) (uuid : length (g .«meta_uuid») ≡ 16)
+      (s : LeavesSo before out i from left) (h : i < k) (ve : v ≡ w) (re : r ≡ shareOf (length list / v) k i) where
     abbrev c : ℕ
     c = shareOf n k i
 
@@ -111,30 +118,34 @@ module _ (g : Geometry) (kind : TreeKind) (list blocks : List ℕ) where
     ends : i * g .blocksize + g .blocksize ≤ length before
     ends = let m : suc i ≤ k = h in omega (arith, mul-le-mul-right (g .blocksize) m, q .long)
 
-    step : (ys : List ℕ) → ys ≡ blockBytes t 0 (getD blocks i 0) (leafPart r (take (from + r * v - from) (drop from list)))
-        → LeavesSo before (putMid (i * g .blocksize) (i * g .blocksize + g .blocksize - i * g .blocksize) out ys) (i + 1) (from + r * v)
-    step ys e =
+    step : (right : ℕ) (ys : List ℕ) → right ≡ beside i left .right
+        → ys ≡ blockBytes t 0 (getD blocks i 0) (record { left = left; right = right }) (leafPart r (take (from + r * v - from) (drop from list)))
+        → LeavesSo before (putMid (i * g .blocksize) (i * g .blocksize + g .blocksize - i * g .blocksize) out ys) (i + 1) (from + r * v) (getD blocks i 0)
+    step right ys er e =
         let far : ℕ = i * g .blocksize in
         let size : ℕ = g .blocksize in
         let part : List ℕ = take (c * w) (drop from list) in
-        let b : Block = leaf i from c in
-        let is : ys ≡ b .bytes = e ∙ ap₂ (λ (x y : ℕ). blockBytes t 0 (getD blocks i 0) (leafPart x (take y (drop from list)))) count-is (add-sub-cancel-left from (r * v) ∙ bytes-are) in
+        let b : Block = leaf i from left c in
+        let is : ys ≡ b .bytes =
+        e
+        ∙ ap (λ (x : ℕ). blockBytes t 0 (getD blocks i 0) (record { left = left; right = x }) (leafPart r (take (from + r * v - from) (drop from list)))) er
+        ∙ ap₂ (λ (x y : ℕ). blockBytes t 0 (getD blocks i 0) (beside i left) (leafPart x (take y (drop from list)))) count-is (add-sub-cancel-left from (r * v) ∙ bytes-are) in
         let pl : length part ≤ c * w = omega (arith, length-take (c * w) (drop from list)) in
-        let l : length (b .bytes) ≡ size = block-length t z 0 (getD blocks i 0) (leafPart c part) (leaf-roomy t z c part count-most pl) in
+        let l : length (b .bytes) ≡ size = block-length t z 0 (getD blocks i 0) (beside i left) (leafPart c part) (leaf-roomy t z c part count-most pl) in
         let far′ : far + size ≡ (i + 1) * size = omega arith in
         let out′ : List ℕ = putMid far (far + size - far) out ys in
-        let wr : Written before out (output (leavesFrom 0 0)) far ((b ∷ []) ++ leavesFrom (i + 1) (from + c * w)) =
-        subst (Written before out (output (leavesFrom 0 0)) far) (leaves-next i from h) (s .written) in
+        let wr : Written before out (output (leavesFrom 0 0 nullAgBlock)) far ((b ∷ []) ++ leavesFrom (i + 1) (from + c * w) (getD blocks i 0)) =
+        subst (Written before out (output (leavesFrom 0 0 nullAgBlock)) far) (leaves-next i from left h) (s .written) in
         record {
           most = omega arith;
           written =
-              subst₂ (λ (x y : ℕ). Written before out′ (output (leavesFrom 0 0)) x (leavesFrom (i + 1) (from + y))) far′ (sym bytes-are)
-              (written-more before out (output (leavesFrom 0 0)) far size (b ∷ []) (leavesFrom (i + 1) (from + c * w)) out′ (ap length (output-one b) ∙ l) ends wr
+              subst₂ (λ (x y : ℕ). Written before out′ (output (leavesFrom 0 0 nullAgBlock)) x (leavesFrom (i + 1) (from + y) (getD blocks i 0))) far′ (sym bytes-are)
+              (written-more before out (output (leavesFrom 0 0 nullAgBlock)) far size (b ∷ []) (leavesFrom (i + 1) (from + c * w) (getD blocks i 0)) out′ (ap length (output-one b) ∙ l) ends wr
               (part-put out ys (b .bytes) far size is l ∙ ap (withBytes out far) (sym (output-one b))));
           all = ap (λ (x : ℕ). from + x + sum (sharesFrom n k (i + 1) (k - (i + 1))) * w) bytes-are ∙ all-next;
         }
 
-    pub leaf-round : LeafRound before out i from r v
+    pub leaf-round : LeafRound before out i from left r v
     leaf-round =
         record {
           inside = omega (arith, bytes-are, all-next);

@@ -104,6 +104,11 @@ nodes-at l (n ∷ ns) (c ∷ counts) ts h e =
     level-append l (stepOf n l [] ∷ flat (take c ts)) (flat (nodeSteps l ns counts (drop c ts)))
     ∙ ap₂ (λ (x y : List ℕ). x ++ y) (level-this l n [] (flat (take c ts)) ∙ ap (λ (x : List ℕ). n ∷ x) (both .0)) (nodes-at l ns counts (drop c ts) (omega arith) (both .1))
 
+-- the blocks of each level from l on, of a plan of so many: the numbers in order
+abbrev pub Tops : ℕ → List ℕ → List ℕ → List Visit → Type 0
+Tops l [] nums vs = Unit {0}
+Tops l (k ∷ ks) nums vs = (atLevel l vs ≡ take k nums) × Tops (suc l) ks (drop k nums) vs
+
 module _ (t : Layout) (look : Visit → Look) where
   -- the walk of a child meets these steps
   abbrev pub Rooted : ℕ → Child → List Step → Type 0
@@ -152,6 +157,8 @@ module _ (t : Layout) (look : Visit → Look) where
     pub in-order : recordsIn steps ≡ recordsIn (flat ts)
     pub by-level : byLevel (suc (l + length ks)) (visitsIn steps) ≡ byLevel (suc l) (visitsIn (flat ts)) ++ nums
     pub visited : length steps ≡ length (flat ts) + length nums
+    pub below : (j : ℕ) → j ≤ l → levelIn j steps ≡ levelIn j (flat ts)
+    pub tops : Tops (suc l) ks nums (visitsIn steps)
 
   top : (l : ℕ) (nums : List ℕ) (cs : List Child) (ts : List (List Step)) → length cs ≡ 1 → length nums ≡ 0 → Along (Rooted l) cs ts → Whole l [] nums cs ts
   unfolding numbersOf flat
@@ -169,6 +176,8 @@ module _ (t : Layout) (look : Visit → Look) where
         in-order = rw append-nil;
         by-level = rw (add-zero, append-nil, append-nil);
         visited = rw append-nil (omega arith);
+        below = λ j h. rw append-nil;
+        tops = tt;
       }
 
   -- from a level to the one above it
@@ -245,6 +254,9 @@ module _ (t : Layout) (look : Visit → Look) where
               ∙ append-assoc (byLevel (suc l) (visitsIn (flat ts))) ns (drop k nums)
               ∙ ap (λ (x : List ℕ). byLevel (suc l) (visitsIn (flat ts)) ++ x) (take-append-drop k nums);
           visited = omega (arith, w .visited, steps-next, length-drop k nums);
+          below = λ j h.
+              w .below j (omega arith) ∙ through (suc l) (levelIn j) (level-append j) (λ n ss. level-other j (suc l) n [] ss (λ e. omega arith)) ns counts ts in-step all-shared;
+          tops = (w .below (suc l) (omega arith) ∙ nodes-at (suc l) ns counts ts in-step (v .high (suc l) (omega arith)), w .tops);
         }
 
   pub whole : (p : ℕ) (ks : List ℕ) (l : ℕ) (nums : List ℕ) (cs : List Child) (ts : List (List Step)) → Level l cs ts → Shaped p (length cs) ks → length nums ≡ sum ks → AboveSeen l ks nums cs → Whole l ks nums cs ts

@@ -5,11 +5,13 @@ pub mod LevelWalk
 pub mod LeafWalk
 pub mod BlockBytes
 pub mod WalkedBack
+pub mod LinkedBack
 pub mod Stored
 pub mod Spans
 pub mod KeyLaws
 pub mod TreeKinds
 pub mod BuiltReturned
+pub mod BuiltBytes
 pub mod Writing
 pub mod LeafWriting
 pub mod Going

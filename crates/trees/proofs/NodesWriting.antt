@@ -18,7 +18,8 @@ use Rattle.blocks.specs.Stamp.{stamped}
 use Rattle.blocks.proofs.Laws.{blocksize-within}
 use Rattle.trees.specs.Plan.{sum, shareOf, sharesFrom, firstOf}
 use Rattle.walks.specs.Walk.{perNode}
-use Rattle.trees.specs.BlockLayout.{Layout, Sized}
+use Rattle.walks.specs.Links.{next}
+use Rattle.trees.specs.BlockLayout.{Links, Layout, Sized}
 use Rattle.trees.specs.Build.{Child, Block, output, keysOf, pointersOf, nodePart, nodeParts, blocksOf, blockBytes}
 use Rattle.trees.specs.BuildCall.{keysUnder, layoutOf}
 use Rattle.trees.specs.inner.BuildNeeds.{levelChildren, pointerBytes, Node, Nodes, nodesAbove}
@@ -43,10 +44,10 @@ module _ (g : Geometry) (kind : TreeKind) (list levels : List ℕ) (level child 
     pub keys-in : head + length below * keysLen kind ≤ g .blocksize
     pub pointers-in : head + (g .blocksize - head) / entry * keys + length below * 4 ≤ g .blocksize
     pub small : length below < 2 ^ 16
-    pub made : (number : ℕ)
-        → stamped g kind number (level + 1) (length below) nullAgBlock nullAgBlock
+    pub made : (number : ℕ) (x : Links)
+        → stamped g kind number (level + 1) (length below) (x .left) (x .right)
         (withBytes (withBytes (replicate (length b) 0) head (keysOf (keysUnder kind) cs)) (head + (g .blocksize - head) / entry * keys) (pointerBytes below))
-        ≡ blockBytes (layoutOf g kind) (level + 1) number (nodePart (layoutOf g kind) cs)
+        ≡ blockBytes (layoutOf g kind) (level + 1) number x (nodePart (layoutOf g kind) cs)
 
   pub node-room : (head entry keys : ℕ) → Node g kind list levels level child below b → head ≡ headerLen (g .version) → entry ≡ entryLen kind → keys ≡ keysLen kind
       → NodeRoom head entry keys
@@ -74,8 +75,8 @@ module _ (g : Geometry) (kind : TreeKind) (list levels : List ℕ) (level child 
         keys-in = omega arith;
         pointers-in = omega (arith, q .most);
         small = count-small g kind (q .given .ok) (q .given .tree) 1 (length below) (q .most);
-        made = λ number.
-            ap₂ (λ (x : ℕ) (y : List ℕ). stamped g kind number (level + 1) x nullAgBlock nullAgBlock y)
+        made = λ number links.
+            ap₂ (λ (x : ℕ) (y : List ℕ). stamped g kind number (level + 1) x (links .left) (links .right) y)
             (sym (span-count (recordLen kind) list f child below))
             (ap₂ (λ (x y : ℕ). withBytes (withBytes (replicate x 0) y (keysOf (keysUnder kind) cs)) (y + (size - head) / entry * keys) (pointerBytes below)) (q .long) he
             ∙ ap₂ (λ (x : ℕ) (y : List ℕ). withBytes (withBytes (replicate size 0) header (keysOf (keysUnder kind) cs)) (header + x) y) room (sym points)
@@ -97,59 +98,63 @@ module _ (g : Geometry) (kind : TreeKind) (list levels : List ℕ) (level : ℕ)
   abbrev k : ℕ
   k = length blocks
 
-  -- the nodes from the i-th on, the first of whose children is the child-th
-  abbrev pub nodesFrom : ℕ → ℕ → List Block
-  nodesFrom i child = blocksOf t (level + 1) (drop i blocks) (nodeParts t (sharesFrom m k i (k - i)) (levelChildren kind list levels level child (drop child below)))
+  -- the nodes from the i-th on, the first of whose children is the child-th, and before which `left` stands
+  abbrev pub nodesFrom : ℕ → ℕ → ℕ → List Block
+  nodesFrom i child left = blocksOf t (level + 1) left (drop i blocks) (nodeParts t (sharesFrom m k i (k - i)) (levelChildren kind list levels level child (drop child below)))
 
-  abbrev node : ℕ → ℕ → ℕ → Block
-  node i child c =
-      record { number = getD blocks i 0; bytes = blockBytes t (level + 1) (getD blocks i 0) (nodePart t (levelChildren kind list levels level child (take c (drop child below)))) }
+  -- the neighbours of the i-th
+  abbrev pub beside : ℕ → ℕ → Links
+  beside i left = record { left = left; right = next (drop (i + 1) blocks) }
 
-  nodes-next : (i child : ℕ) → i < k → nodesFrom i child ≡ node i child (shareOf m k i) ∷ nodesFrom (i + 1) (child + shareOf m k i)
+  abbrev node : ℕ → ℕ → ℕ → ℕ → Block
+  node i child left c =
+      record { number = getD blocks i 0; bytes = blockBytes t (level + 1) (getD blocks i 0) (beside i left) (nodePart t (levelChildren kind list levels level child (take c (drop child below)))) }
+
+  nodes-next : (i child left : ℕ) → i < k → nodesFrom i child left ≡ node i child left (shareOf m k i) ∷ nodesFrom (i + 1) (child + shareOf m k i) (getD blocks i 0)
   unfolding blocksOf nodeParts sharesFrom
-  nodes-next i child h =
+  nodes-next i child left h =
       let less : k - i ≡ suc (k - (i + 1)) = omega arith in
       let c : ℕ = shareOf m k i in
       rw (less, drop-cons blocks i 0 h, add-one i, span-take (recordLen kind) list f c child (drop child below), span-drop (recordLen kind) list f c child (drop child below), drop-drop c child below)
 
-  nodes-end : (i child : ℕ) → i ≡ k → nodesFrom i child ≡ []
+  nodes-end : (i child left : ℕ) → i ≡ k → nodesFrom i child left ≡ []
   unfolding blocksOf
-  nodes-end i child e = rw (drop-of-length-le blocks {i = i} (omega arith))
+  nodes-end i child left e = rw (drop-of-length-le blocks {i = i} (omega arith))
 
-  nodes-all : nodesFrom 0 0 ≡ nodesAbove g kind list levels level below blocks
+  nodes-all : nodesFrom 0 0 nullAgBlock ≡ nodesAbove g kind list levels level below blocks
   nodes-all = rw sub-zero refl
 
   -- the loop's invariant
-  pub record NodesSo (before out : List ℕ) (i child : ℕ) : Type 0 where
+  pub record NodesSo (before out : List ℕ) (i child left : ℕ) : Type 0 where
     pub most : i ≤ k
-    pub written : Written before out (output (nodesAbove g kind list levels level below blocks)) (i * g .blocksize) (nodesFrom i child)
+    pub written : Written before out (output (nodesAbove g kind list levels level below blocks)) (i * g .blocksize) (nodesFrom i child left)
     pub all : child + sum (sharesFrom m k i (k - i)) ≡ m
 
-  pub nodes-start : (before : List ℕ) → Nodes g kind list levels level below blocks before → NodesSo before before 0 0
+  pub nodes-start : (before : List ℕ) → Nodes g kind list levels level below blocks before → NodesSo before before 0 0 nullAgBlock
   nodes-start before q =
       record {
         most = omega arith;
-        written = rw zero-mul (written-none before (output (nodesAbove g kind list levels level below blocks)) (nodesFrom 0 0) (ap output nodes-all));
+        written = rw zero-mul (written-none before (output (nodesAbove g kind list levels level below blocks)) (nodesFrom 0 0 nullAgBlock) (ap output nodes-all));
         all = rw (sub-zero, zero-add) (shares-sum m k (q .some));
       }
 
-  pub nodes-done : (before out : List ℕ) (i child : ℕ) → NodesSo before out i child → i ≡ k
+  pub nodes-done : (before out : List ℕ) (i child left : ℕ) → NodesSo before out i child left → i ≡ k
       → out ≡ withBytes before 0 (output (nodesAbove g kind list levels level below blocks))
-  nodes-done before out i child s e =
+  nodes-done before out i child left s e =
       written-all before out (output (nodesAbove g kind list levels level below blocks)) (i * g .blocksize)
-      (subst (Written before out (output (nodesAbove g kind list levels level below blocks)) (i * g .blocksize)) (nodes-end i child e) (s .written))
+      (subst (Written before out (output (nodesAbove g kind list levels level below blocks)) (i * g .blocksize)) (nodes-end i child left e) (s .written))
 
   -- what a round needs and leaves, where r is the node's share
-  pub record NodeRound (before out : List ℕ) (i child r : ℕ) : Type 0 where
+  pub record NodeRound (before out : List ℕ) (i child left r : ℕ) : Type 0 where
     pub inside : child + r ≤ length below
     pub ends : i * g .blocksize + g .blocksize ≤ length before
     pub node-for : (b : List ℕ) → length b ≡ g .blocksize → Node g kind list levels level child (take (child + r - child) (drop child below)) b
-    pub next : (ys : List ℕ)
-        → ys ≡ blockBytes t (level + 1) (getD blocks i 0) (nodePart t (levelChildren kind list levels level child (take (child + r - child) (drop child below))))
-        → NodesSo before (putMid (i * g .blocksize) (i * g .blocksize + g .blocksize - i * g .blocksize) out ys) (i + 1) (child + r)
+    pub next : (right : ℕ) (ys : List ℕ) → right ≡ beside i left .right
+        → ys ≡ blockBytes t (level + 1) (getD blocks i 0) (record { left = left; right = right }) (nodePart t (levelChildren kind list levels level child (take (child + r - child) (drop child below))))
+        → NodesSo before (putMid (i * g .blocksize) (i * g .blocksize + g .blocksize - i * g .blocksize) out ys) (i + 1) (child + r) (getD blocks i 0)
 
-  module _ (before out : List ℕ) (i child r : ℕ) (q : Nodes g kind list levels level below blocks before) (uuid : length (g .«meta_uuid») ≡ 16)
-      (s : NodesSo before out i child) (h : i < k) (re : r ≡ shareOf m k i) where
+  module _ (before out : List ℕ) (i child left r : ℕ) (q : Nodes g kind list levels level below blocks before) (uuid : length (g .«meta_uuid») ≡ 16)
+      (s : NodesSo before out i child left) (h : i < k) (re : r ≡ shareOf m k i) where
     abbrev whole : List ℕ
     whole = output (nodesAbove g kind list levels level below blocks)
 
@@ -181,30 +186,34 @@ module _ (g : Geometry) (kind : TreeKind) (list levels : List ℕ) (level : ℕ)
           long = e;
         }
 
-    step : (ys : List ℕ) → ys ≡ blockBytes t (level + 1) (getD blocks i 0) (nodePart t (levelChildren kind list levels level child (take (child + r - child) (drop child below))))
-        → NodesSo before (putMid (i * g .blocksize) (i * g .blocksize + g .blocksize - i * g .blocksize) out ys) (i + 1) (child + r)
-    step ys e =
+    step : (right : ℕ) (ys : List ℕ) → right ≡ beside i left .right
+        → ys ≡ blockBytes t (level + 1) (getD blocks i 0) (record { left = left; right = right }) (nodePart t (levelChildren kind list levels level child (take (child + r - child) (drop child below))))
+        → NodesSo before (putMid (i * g .blocksize) (i * g .blocksize + g .blocksize - i * g .blocksize) out ys) (i + 1) (child + r) (getD blocks i 0)
+    step right ys er e =
         let far : ℕ = i * g .blocksize in
         let size : ℕ = g .blocksize in
-        let b : Block = node i child r in
+        let b : Block = node i child left r in
         let cs : List Child = levelChildren kind list levels level child (take r (drop child below)) in
-        let is : ys ≡ b .bytes = e ∙ ap (λ (x : List ℕ). blockBytes t (level + 1) (getD blocks i 0) (nodePart t (levelChildren kind list levels level child x))) cut in
+        let is : ys ≡ b .bytes =
+        e
+        ∙ ap (λ (x : ℕ). blockBytes t (level + 1) (getD blocks i 0) (record { left = left; right = x }) (nodePart t (levelChildren kind list levels level child (take (child + r - child) (drop child below))))) er
+        ∙ ap (λ (x : List ℕ). blockBytes t (level + 1) (getD blocks i 0) (beside i left) (nodePart t (levelChildren kind list levels level child x))) cut in
         let few : length cs ≤ perNode (t .shape) = omega (arith, span-count (recordLen kind) list f child (take r (drop child below)), part-length, count-most) in
-        let l : length (b .bytes) ≡ size = block-length t z (level + 1) (getD blocks i 0) (nodePart t cs) (node-roomy t z cs few) in
+        let l : length (b .bytes) ≡ size = block-length t z (level + 1) (getD blocks i 0) (beside i left) (nodePart t cs) (node-roomy t z cs few) in
         let far′ : far + size ≡ (i + 1) * size = omega arith in
         let out′ : List ℕ = putMid far (far + size - far) out ys in
-        let wr : Written before out whole far ((b ∷ []) ++ nodesFrom (i + 1) (child + r)) =
-        subst (Written before out whole far) (nodes-next i child h ∙ ap (λ (x : ℕ). node i child x ∷ nodesFrom (i + 1) (child + x)) (sym re)) (s .written) in
+        let wr : Written before out whole far ((b ∷ []) ++ nodesFrom (i + 1) (child + r) (getD blocks i 0)) =
+        subst (Written before out whole far) (nodes-next i child left h ∙ ap (λ (x : ℕ). node i child left x ∷ nodesFrom (i + 1) (child + x) (getD blocks i 0)) (sym re)) (s .written) in
         record {
           most = omega arith;
           written =
-              subst (λ (x : ℕ). Written before out′ whole x (nodesFrom (i + 1) (child + r))) far′
-              (written-more before out whole far size (b ∷ []) (nodesFrom (i + 1) (child + r)) out′ (ap length (output-one b) ∙ l) ends wr
+              subst (λ (x : ℕ). Written before out′ whole x (nodesFrom (i + 1) (child + r) (getD blocks i 0))) far′
+              (written-more before out whole far size (b ∷ []) (nodesFrom (i + 1) (child + r) (getD blocks i 0)) out′ (ap length (output-one b) ∙ l) ends wr
               (part-put out ys (b .bytes) far size is l ∙ ap (withBytes out far) (sym (output-one b))));
           all = all-next;
         }
 
-    pub node-round : NodeRound before out i child r
+    pub node-round : NodeRound before out i child left r
     node-round =
         record {
           inside = omega (arith, all-next);

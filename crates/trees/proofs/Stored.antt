@@ -11,8 +11,10 @@ use lib.Dec.{ltb}
 use borrow.Author.Tests.{ltb-true, ltb-false}
 use Rattle.codec.specs.Bytes.{bytesAt, withBytes}
 use Rattle.codec.proofs.Parts.{length-withBytes, bytesAt-same, bytesAt-before, bytesAt-after}
+use Rattle.blocks.specs.Geometry.{nullAgBlock}
 use Rattle.trees.specs.Plan.{leaves, above, levelsOf, sum, shares}
 use Rattle.trees.specs.BlockLayout.{Layout, Sized}
+use Rattle.walks.specs.Links.{next}
 use Rattle.walks.specs.Walk.{perLeaf, perNode, blockIn}
 use Rattle.trees.specs.Build.{Child, Part, Block, leafPart, nodePart, leafParts, nodeParts, blocksOf, childrenOf, buildAbove, buildPlan, planOf, build, output, Holds, stored, Other, Places}
 use Rattle.trees.proofs.Sharing.{split, Shaped, Most, shares-most, shares-length, leaves-some, leaves-room, above-shaped}
@@ -41,21 +43,21 @@ output-length size (b ∷ bs) [] h = absurd h
 output-length size (b ∷ bs) (n ∷ ns) h = omega (arith, length-append (b .bytes) (output bs), output-length size bs ns (h .2), h .0)
 
 module _ (t : Layout) (s : Sized t) where
-  pub nodes-made : (level : ℕ) (ns counts : List ℕ) (cs : List Child) → length ns ≡ length counts → Most (perNode (t .shape)) counts → Made (t .shape .size) (blocksOf t level ns (nodeParts t counts cs)) ns
+  pub nodes-made : (level left : ℕ) (ns counts : List ℕ) (cs : List Child) → length ns ≡ length counts → Most (perNode (t .shape)) counts → Made (t .shape .size) (blocksOf t level left ns (nodeParts t counts cs)) ns
   unfolding blocksOf nodeParts
-  nodes-made level [] counts cs e m = tt
-  nodes-made level (n ∷ ns) [] cs e m = absurd (omega arith)
-  nodes-made level (n ∷ ns) (c ∷ counts) cs e m =
+  nodes-made level left [] counts cs e m = tt
+  nodes-made level left (n ∷ ns) [] cs e m = absurd (omega arith)
+  nodes-made level left (n ∷ ns) (c ∷ counts) cs e m =
       let k : length (take c cs) ≤ perNode (t .shape) = omega (arith, length-take c cs, m .0) in
-      (block-length t s level n (nodePart t (take c cs)) (node-roomy t s (take c cs) k), refl, nodes-made level ns counts (drop c cs) (omega arith) (m .1))
+      (block-length t s level n (record { left = left; right = next ns }) (nodePart t (take c cs)) (node-roomy t s (take c cs) k), refl, nodes-made level n ns counts (drop c cs) (omega arith) (m .1))
 
-  pub leaves-made : (ns counts bytes : List ℕ) → length ns ≡ length counts → Most (perLeaf (t .shape)) counts → Made (t .shape .size) (blocksOf t 0 ns (leafParts t counts bytes)) ns
+  pub leaves-made : (left : ℕ) (ns counts bytes : List ℕ) → length ns ≡ length counts → Most (perLeaf (t .shape)) counts → Made (t .shape .size) (blocksOf t 0 left ns (leafParts t counts bytes)) ns
   unfolding blocksOf leafParts
-  leaves-made [] counts bytes e m = tt
-  leaves-made (n ∷ ns) [] bytes e m = absurd (omega arith)
-  leaves-made (n ∷ ns) (c ∷ counts) bytes e m =
+  leaves-made left [] counts bytes e m = tt
+  leaves-made left (n ∷ ns) [] bytes e m = absurd (omega arith)
+  leaves-made left (n ∷ ns) (c ∷ counts) bytes e m =
       let p : List ℕ = take (c * t .shape .record-length) bytes in
-      (block-length t s 0 n (leafPart c p) (leaf-roomy t s c p (m .0) (omega (arith, length-take (c * t .shape .record-length) bytes))), refl, leaves-made ns counts (drop (c * t .shape .record-length) bytes) (omega arith) (m .1))
+      (block-length t s 0 n (record { left = left; right = next ns }) (leafPart c p) (leaf-roomy t s c p (m .0) (omega (arith, length-take (c * t .shape .record-length) bytes))), refl, leaves-made n ns counts (drop (c * t .shape .record-length) bytes) (omega arith) (m .1))
 
   above-made : (level : ℕ) (ks nums : List ℕ) (cs : List Child) → Shaped (perNode (t .shape)) (length cs) ks → length nums ≡ sum ks → Made (t .shape .size) (buildAbove t level ks nums cs) nums
   unfolding buildAbove sum
@@ -65,9 +67,9 @@ module _ (t : Layout) (s : Sized t) where
       let ps : List Part = nodeParts t (shares (length cs) k) cs in
       let cs′ : List Child = childrenOf (take k nums) ps in
       let i : length cs′ ≡ k = next-length t k nums cs (omega arith) in
-      subst (Made (t .shape .size) (blocksOf t level (take k nums) ps ++ buildAbove t (suc level) ks (drop k nums) cs′)) (take-append-drop k nums)
-      (made-append (t .shape .size) (blocksOf t level (take k nums) ps) (buildAbove t (suc level) ks (drop k nums) cs′) (take k nums) (drop k nums)
-      (nodes-made level (take k nums) (shares (length cs) k) cs (length-take-le k nums (omega arith) ∙ sym (shares-length (length cs) k 0 k)) (shares-most (length cs) k 0 k (perNode (t .shape)) (e .0) (e .1)))
+      subst (Made (t .shape .size) (blocksOf t level nullAgBlock (take k nums) ps ++ buildAbove t (suc level) ks (drop k nums) cs′)) (take-append-drop k nums)
+      (made-append (t .shape .size) (blocksOf t level nullAgBlock (take k nums) ps) (buildAbove t (suc level) ks (drop k nums) cs′) (take k nums) (drop k nums)
+      (nodes-made level nullAgBlock (take k nums) (shares (length cs) k) cs (length-take-le k nums (omega arith) ∙ sym (shares-length (length cs) k 0 k)) (shares-most (length cs) k 0 k (perNode (t .shape)) (e .0) (e .1)))
       (above-made (suc level) ks (drop k nums) cs′ (subst (λ (x : ℕ). Shaped (perNode (t .shape)) x ks) (sym i) (e .2)) (omega (arith, length-drop k nums))))
 
   -- every block of a built tree, of any bytes
@@ -83,9 +85,9 @@ module _ (t : Layout) (s : Sized t) where
       let st : length (take k numbers) ≡ length (shares n k) = kn ∙ sym (shares-length n k 0 k) in
       let i : length cs ≡ k = sym (numbers-length cs) ∙ ap length (numbers-of-children (take k numbers) ps (st ∙ sym (leaf-parts-length t (shares n k) bytes))) ∙ kn in
       let sh : Shaped (perNode (t .shape)) k ks = above-shaped (perNode (t .shape)) k 9 (s .node-some) (leaves-some (perLeaf (t .shape)) n) (omega arith) in
-      subst (Made (t .shape .size) (blocksOf t 0 (take k numbers) ps ++ buildAbove t 1 ks (drop k numbers) cs)) (take-append-drop k numbers)
-      (made-append (t .shape .size) (blocksOf t 0 (take k numbers) ps) (buildAbove t 1 ks (drop k numbers) cs) (take k numbers) (drop k numbers)
-      (leaves-made (take k numbers) (shares n k) bytes st (shares-most n k 0 k (perLeaf (t .shape)) (leaves-some (perLeaf (t .shape)) n) (leaves-room (perLeaf (t .shape)) n (s .leaf-some))))
+      subst (Made (t .shape .size) (blocksOf t 0 nullAgBlock (take k numbers) ps ++ buildAbove t 1 ks (drop k numbers) cs)) (take-append-drop k numbers)
+      (made-append (t .shape .size) (blocksOf t 0 nullAgBlock (take k numbers) ps) (buildAbove t 1 ks (drop k numbers) cs) (take k numbers) (drop k numbers)
+      (leaves-made nullAgBlock (take k numbers) (shares n k) bytes st (shares-most n k 0 k (perLeaf (t .shape)) (leaves-some (perLeaf (t .shape)) n) (leaves-room (perLeaf (t .shape)) n (s .leaf-some))))
       (above-made 1 ks (drop k numbers) cs (subst (λ (x : ℕ). Shaped (perNode (t .shape)) x ks) (sym i) sh) (omega (arith, length-drop k numbers))))
 
 -- ---- blocks stored in an image

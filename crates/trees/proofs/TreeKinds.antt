@@ -3,25 +3,27 @@
 use Prim.Native.Nat.{ℕ, zero, suc, _+_, _-_, _*_, _^_, _≤_, _<_}
 use native.Mathlib.Nat.{le-div-iff-mul-le, div-mul-le-self, mul-le-mul-left}
 use native.Mathlib.Omega.{arith}
-use mathlib.Core.Path.{_≡_, refl, ap, ap₂, _∙_, subst}
+use mathlib.Core.Path.{_≡_, refl, sym, ap, ap₂, _∙_, subst}
 use mathlib.Core.Bool.{true}
 use mathlib.Core.List.{List, [], _∷_}
 use lib.ListN.{length, length-append}
 use borrow.Author.Tests.{ne-eqb}
 use Rattle.codec.specs.Bytes.{IsBytes}
-use Rattle.codec.specs.Question.{mapOutcome}
+use Rattle.codec.specs.Question.{done}
 use Rattle.codec.specs.Records.{recordsOf, rmaps, refcounts}
 use Rattle.codec.proofs.Numbers.{length-beBytes}
 use Rattle.codec.proofs.FieldLists.{isBytes-append, isBytes-beBytes, isBytes-fieldBytes}
 use Rattle.blocks.specs.declared.geometry.Geometry.{Geometry}
 use Rattle.blocks.specs.declared.kind.TreeKind.{TreeKind}
 use Rattle.blocks.specs.declared.kind.TreeKind.the-variants.{Rmap, Refcount}
-use Rattle.blocks.specs.declared.check.Header.{Header}
-use Rattle.blocks.specs.Geometry.{geometryOk, Fits, nullAgBlock}
+use Rattle.blocks.specs.Geometry.{geometryOk, Fits}
 use Rattle.blocks.specs.Tree.{headerLen, hasTree, recordLen, keysLen, placeLen, capacity as capacityOf}
+use Rattle.blocks.specs.Check.{headerSays, checkBlock}
 use Rattle.blocks.proofs.Laws.{bounded, blocksize-within, header-most, place-least}
+use Rattle.blocks.proofs.Accepted.{Accepted, accepted}
 use Rattle.blocks.proofs.Stamped.{stamped-length, stamped-body, stamped-passes}
-use Rattle.trees.specs.BlockLayout.{Layout, capacity, Sized, Sound}
+use Rattle.walks.specs.Shapes.{numrecsOf}
+use Rattle.trees.specs.BlockLayout.{Links, Layout, capacity, Sized, Fresh, Sound}
 use Rattle.trees.specs.Keys.{keyBytes, keyWidths, lowest, highest, rmapKeys, refcountKeys, firstStart}
 use Rattle.trees.specs.BuildCall.{keysUnder, layoutOf}
 use Rattle.trees.proofs.KeyLaws.{key-length}
@@ -83,8 +85,21 @@ module _ (g : Geometry) (kind : TreeKind) (ok : geometryOk g ≡ true) (tree : h
         leaf-some = le-div-iff-mul-le (record-some kind) .1 (omega (arith, header-within, of .record-most));
         node-some = (let p : 0 < keysLen kind + 4 = omega arith in le-div-iff-mul-le p .1 (omega (arith, header-within)));
         keys-long = keys-long kind;
-        stamp-long = λ block level n b e. stamped-length g kind block level n nullAgBlock nullAgBlock b uuid (long b e) ∙ e;
+        stamp-long = λ block level n x b e. stamped-length g kind block level n (x .left) (x .right) b uuid (long b e) ∙ e;
       }
+
+  -- a stamped block passes the check, which hands back its neighbours
+  stamp-accepted : Fits g → (block level n : ℕ) (x : Links) (b : List ℕ) → Fresh (t .shape) block level n x b
+      → checkBlock g kind block level (t .stamp block level n x b) ≡ done (headerSays g kind level n (x .left) (x .right) (length b))
+  stamp-accepted fits block level n x b f =
+      stamped-passes g kind block level n (x .left) (x .right) b fits (long b (f .long)) (f .are-bytes) ok tree (f .number-fits) (omega (arith, f .level-fits))
+      (count-small level n (f .most)) (f .left-fits) (f .right-fits) (subst (λ (y : ℕ). n ≤ y) (room-is level (length b) (f .long)) (f .most))
+
+  -- its siblings stand where the check reads them
+  stamp-says : Fits g → (block level n : ℕ) (x : Links) (b : List ℕ) → Fresh (t .shape) block level n x b
+      → Accepted g kind level (t .stamp block level n x b) (headerSays g kind level n (x .left) (x .right) (length b))
+  stamp-says fits block level n x b f =
+      accepted g kind block level (t .stamp block level n x b) (headerSays g kind level n (x .left) (x .right) (length b)) (stamp-accepted fits block level n x b f)
 
   pub sound : Fits g → Sound t
   sound fits =
@@ -92,8 +107,8 @@ module _ (g : Geometry) (kind : TreeKind) (ok : geometryOk g ≡ true) (tree : h
       record {
         sized = sized (fits .uuid-long);
         keys-bytes = keys-bytes kind;
-        stamp-body = λ block level n b e. stamped-body g kind block level n nullAgBlock nullAgBlock b fits (long b e) (headerLen (g .version)) (omega arith);
-        stamp-passes = λ block level n b small few bytes e room.
-            ap (mapOutcome (λ (h : Header). h .numrecs))
-            (stamped-passes g kind block level n nullAgBlock nullAgBlock b fits (long b e) bytes ok tree small (omega arith) (count-small level n room) (subst (λ (x : ℕ). n ≤ x) (room-is level (length b) e) room));
+        stamp-body = λ block level n x b e. stamped-body g kind block level n (x .left) (x .right) b fits (long b e) (headerLen (g .version)) (omega arith);
+        stamp-passes = λ block level n x b f. ap numrecsOf (stamp-accepted fits block level n x b f);
+        stamp-left = λ block level n x b f. sym (stamp-says fits block level n x b f .leftsib-is);
+        stamp-right = λ block level n x b f. sym (stamp-says fits block level n x b f .rightsib-is);
       }

@@ -16,6 +16,7 @@ use Rattle.codec.proofs.Stores.{withBytes-all}
 use Rattle.blocks.specs.declared.geometry.Geometry.{Geometry}
 use Rattle.blocks.specs.declared.kind.TreeKind.{TreeKind}
 use Rattle.blocks.specs.Tree.{recordLen}
+use Rattle.blocks.specs.Geometry.{nullAgBlock}
 use Rattle.trees.specs.Plan.{ceil, leaves, above, levelsOf, sum, sharesFrom, shares, startOf, firstOf}
 use Rattle.walks.specs.Walk.{perLeaf, perNode}
 use Rattle.trees.specs.BlockLayout.{Layout, Sized}
@@ -233,7 +234,7 @@ module _ (g : Geometry) (kind : TreeKind) (list levels numbers before : List ℕ
     rest-is : drop (suc 0) levels ≡ ks₀
     rest-is = ap (drop 1) levels-are
 
-    build-is : (k : ℕ) → k ≡ k₀ → k ≡ getD levels 0 0 → build t numbers list ≡ blocksOf t 0 (take k numbers) (leafParts t (shares (length list / recordLen kind) k) list) ++ levelsAbove g kind list levels numbers
+    build-is : (k : ℕ) → k ≡ k₀ → k ≡ getD levels 0 0 → build t numbers list ≡ blocksOf t 0 nullAgBlock (take k numbers) (leafParts t (shares (length list / recordLen kind) k) list) ++ levelsAbove g kind list levels numbers
     unfolding build buildPlan levelsOf
     build-is k e f =
         let n : ℕ = length list / recordLen kind in
@@ -241,8 +242,8 @@ module _ (g : Geometry) (kind : TreeKind) (list levels numbers before : List ℕ
         let len : length (take k₀ numbers) ≡ getD levels 0 0 = length-take-le k₀ numbers le ∙ sym first-is in
         let cs : childrenOf (take k₀ numbers) (leafParts t (shares n k₀) list) ≡ levelChildren kind list levels 0 0 (take k₀ numbers) =
         ap (λ (x : ℕ). childrenOf (take k₀ numbers) (leafParts t (shares n x) list)) (sym first-is) ∙ leaves-are g kind list levels (take k₀ numbers) len in
-        ap₂ (λ (x : List ℕ) (y : List Child). blocksOf t 0 (take k₀ numbers) (leafParts t (shares n k₀) list) ++ buildAbove t 1 x (drop k₀ numbers) y) (sym rest-is) cs
-        ∙ ap₂ (λ (x y : ℕ). blocksOf t 0 (take x numbers) (leafParts t (shares n x) list) ++ buildAbove t 1 (drop 1 levels) (drop y numbers) (levelChildren kind list levels 0 0 (take y numbers))) (sym e) (sym first-is)
+        ap₂ (λ (x : List ℕ) (y : List Child). blocksOf t 0 nullAgBlock (take k₀ numbers) (leafParts t (shares n k₀) list) ++ buildAbove t 1 x (drop k₀ numbers) y) (sym rest-is) cs
+        ∙ ap₂ (λ (x y : ℕ). blocksOf t 0 nullAgBlock (take x numbers) (leafParts t (shares n x) list) ++ buildAbove t 1 (drop 1 levels) (drop y numbers) (levelChildren kind list levels 0 0 (take y numbers))) (sym e) (sym first-is)
 
     far-in : far ≤ length before
     far-in =
@@ -280,7 +281,7 @@ module _ (g : Geometry) (kind : TreeKind) (list levels numbers before : List ℕ
       pub room : k * size ≤ length before
       pub leaves-for : (out : List ℕ) → length out ≡ k * size - 0 → Leaves g kind list (take (k - 0) (drop 0 numbers)) out
       pub whole-for : (part ys out : List ℕ) → length part ≡ k * size - 0
-          → ys ≡ withBytes part 0 (output (blocksOf t 0 (take (k - 0) (drop 0 numbers)) (leafParts t (shares (length list / recordLen kind) (length (take (k - 0) (drop 0 numbers)))) list)))
+          → ys ≡ withBytes part 0 (output (blocksOf t 0 nullAgBlock (take (k - 0) (drop 0 numbers)) (leafParts t (shares (length list / recordLen kind) (length (take (k - 0) (drop 0 numbers)))) list)))
           → out ≡ withBytes (putMid 0 (k * size - 0) before ys) far (output (levelsAbove g kind list levels numbers))
           → out ≡ withBytes before 0 (builtBytes g kind list numbers)
       pub again : (out : List ℕ) → length out ≡ length before → Tree g kind list levels numbers out
@@ -295,9 +296,9 @@ module _ (g : Geometry) (kind : TreeKind) (list levels numbers before : List ℕ
         let len : length (take k numbers) ≡ k = length-take-le k numbers le in
         let some : 0 < k = omega (arith, leaves-some (perLeaf (t .shape)) n) in
         let room : n ≤ k * perLeaf (t .shape) = subst (λ (x : ℕ). n ≤ x * perLeaf (t .shape)) (sym kk) (leaves-room (perLeaf (t .shape)) n (z .leaf-some)) in
-        let X : List Block = blocksOf t 0 (take k numbers) (leafParts t (shares n k) list) in
+        let X : List Block = blocksOf t 0 nullAgBlock (take k numbers) (leafParts t (shares n k) list) in
         let made : Made size X (take k numbers) =
-        leaves-made t z (take k numbers) (shares n k) list (len ∙ sym (shares-length n k 0 k)) (shares-most n k 0 k (perLeaf (t .shape)) some room) in
+        leaves-made t z nullAgBlock (take k numbers) (shares n k) list (len ∙ sym (shares-length n k 0 k)) (shares-most n k 0 k (perLeaf (t .shape)) some room) in
         let xl : length (output X) ≡ k * size = output-length size X (take k numbers) made ∙ ap (λ (x : ℕ). x * size) len in
         let above-all : List ℕ = output (levelsAbove g kind list levels numbers) in
         record {
@@ -314,8 +315,8 @@ module _ (g : Geometry) (kind : TreeKind) (list levels numbers before : List ℕ
               });
           whole-for = λ part ys out pl e last.
               let is : ys ≡ withBytes part 0 (output X) =
-              e ∙ ap (λ (x : List ℕ). withBytes part 0 (output (blocksOf t 0 x (leafParts t (shares n (length x)) list)))) cut
-              ∙ ap (λ (x : ℕ). withBytes part 0 (output (blocksOf t 0 (take k numbers) (leafParts t (shares n x) list)))) len in
+              e ∙ ap (λ (x : List ℕ). withBytes part 0 (output (blocksOf t 0 nullAgBlock x (leafParts t (shares n (length x)) list)))) cut
+              ∙ ap (λ (x : ℕ). withBytes part 0 (output (blocksOf t 0 nullAgBlock (take k numbers) (leafParts t (shares n x) list)))) len in
               last
               ∙ ap₂ (λ (x : List ℕ) (y : ℕ). withBytes x y above-all) (part-put-to before part ys (output X) 0 (k * size) (omega arith) pl (omega arith) is)
               (let y : far ≡ 0 + length (output X) = ap (λ (x : ℕ). x * size) (sym ke) ∙ sym xl ∙ sym (zero-add (length (output X))) in y)
@@ -340,7 +341,7 @@ module _ (g : Geometry) (kind : TreeKind) (list levels numbers before : List ℕ
       cs = levelChildren kind list levels l 0 below
 
       abbrev X : List Block
-      X = blocksOf t (suc l) (take k (drop base numbers)) (nodeParts t (shares (length cs) k) cs)
+      X = blocksOf t (suc l) nullAgBlock (take k (drop base numbers)) (nodeParts t (shares (length cs) k) cs)
 
       dropped : drop (suc l) levels ≡ k ∷ ks
       dropped = drop-cons levels (suc l) 0 h ∙ ap (λ (x : ℕ). x ∷ ks) (sym ke)
@@ -372,7 +373,7 @@ module _ (g : Geometry) (kind : TreeKind) (list levels numbers before : List ℕ
 
       made : Made size X (take k (drop base numbers))
       made =
-          nodes-made t z (suc l) (take k (drop base numbers)) (shares (length cs) k) cs (numbers-length′ ∙ sym (shares-length (length cs) k 0 k))
+          nodes-made t z (suc l) nullAgBlock (take k (drop base numbers)) (shares (length cs) k) cs (numbers-length′ ∙ sym (shares-length (length cs) k 0 k))
           (shares-most (length cs) k 0 k per (shaped-next .0) (omega (arith, children-length, shaped-next .1)))
 
       long : length (output X) ≡ k * size
@@ -391,8 +392,8 @@ module _ (g : Geometry) (kind : TreeKind) (list levels numbers before : List ℕ
       nodes-here : nodesAbove g kind list levels l below (take (base + k - base) (drop base numbers)) ≡ X
       nodes-here =
           ap (λ (x : List ℕ). nodesAbove g kind list levels l below x) cut
-          ∙ ap₂ (λ (x y : ℕ). blocksOf t (l + 1) (take k (drop base numbers)) (nodeParts t (shares x y) cs)) (below-length ∙ sym children-length) numbers-length′
-          ∙ ap (λ (x : ℕ). blocksOf t x (take k (drop base numbers)) (nodeParts t (shares (length cs) k) cs)) (add-one l)
+          ∙ ap₂ (λ (x y : ℕ). blocksOf t (l + 1) nullAgBlock (take k (drop base numbers)) (nodeParts t (shares x y) cs)) (below-length ∙ sym children-length) numbers-length′
+          ∙ ap (λ (x : ℕ). blocksOf t x nullAgBlock (take k (drop base numbers)) (nodeParts t (shares (length cs) k) cs)) (add-one l)
 
       -- what a round needs and leaves
       pub record TreeRound : Type 0 where

@@ -5,9 +5,11 @@ use mathlib.Core.Path.{_≡_}
 use mathlib.Core.List.{List, [], _∷_, _++_}
 use lib.ListN.{length, take, drop, getD, replicate}
 use Rattle.codec.specs.Bytes.{withBytes, beBytes}
+use Rattle.blocks.specs.Geometry.{nullAgBlock}
 use Rattle.trees.specs.Plan.{levelsOf, shares}
 use Rattle.walks.specs.Walk.{Shape, perLeaf, perNode, blockIn}
-use Rattle.trees.specs.BlockLayout.{Layout}
+use Rattle.walks.specs.Links.{next}
+use Rattle.trees.specs.BlockLayout.{Links, Layout}
 
 -- a block of the tree as the level above sees it: its number, and the bytes of the records under it
 pub record Child : Type 0 where
@@ -65,15 +67,17 @@ nodeParts t [] cs = []
 nodeParts t (n ∷ ns) cs = nodePart t (take n cs) ∷ nodeParts t ns (drop n cs)
 
 -- a block: the header stamped over zeros, the body, and zeros up to the block size
-abbrev pub blockBytes : Layout → ℕ → ℕ → Part → List ℕ
-blockBytes t level number p = t .stamp number level (p .count) (padded (t .shape .size) (replicate (t .shape .header) 0 ++ p .body))
+abbrev pub blockBytes : Layout → ℕ → ℕ → Links → Part → List ℕ
+blockBytes t level number x p = t .stamp number level (p .count) x (padded (t .shape .size) (replicate (t .shape .header) 0 ++ p .body))
 
--- the blocks of one level over their numbers, and the level as the one above sees it
-unfoldable pub blocksOf : Layout → ℕ → List ℕ → List Part → List Block
-blocksOf t level [] ps = []
-blocksOf t level (n ∷ ns) [] = []
-blocksOf t level (n ∷ ns) (p ∷ ps) = record { number = n; bytes = blockBytes t level n p } ∷ blocksOf t level ns ps
+-- the blocks of one level over their numbers, where `left` stands before them: each names the block before it and the one after
+unfoldable pub blocksOf : Layout → ℕ → ℕ → List ℕ → List Part → List Block
+blocksOf t level left [] ps = []
+blocksOf t level left (n ∷ ns) [] = []
+blocksOf t level left (n ∷ ns) (p ∷ ps) =
+    record { number = n; bytes = blockBytes t level n (record { left = left; right = next ns }) p } ∷ blocksOf t level n ns ps
 
+-- a level as the one above sees it
 unfoldable pub childrenOf : List ℕ → List Part → List Child
 childrenOf [] ps = []
 childrenOf (n ∷ ns) [] = []
@@ -84,14 +88,14 @@ unfoldable pub buildAbove : Layout → ℕ → List ℕ → List ℕ → List Ch
 buildAbove t level [] numbers cs = []
 buildAbove t level (k ∷ ks) numbers cs =
     let parts : List Part = nodeParts t (shares (length cs) k) cs in
-    blocksOf t level (take k numbers) parts ++ buildAbove t (suc level) ks (drop k numbers) (childrenOf (take k numbers) parts)
+    blocksOf t level nullAgBlock (take k numbers) parts ++ buildAbove t (suc level) ks (drop k numbers) (childrenOf (take k numbers) parts)
 
 -- the tree of a plan: the leaves, then each level
 unfoldable pub buildPlan : Layout → List ℕ → List ℕ → List ℕ → List Block
 buildPlan t [] numbers bytes = []
 buildPlan t (k ∷ ks) numbers bytes =
     let parts : List Part = leafParts t (shares (length bytes / t .shape .record-length) k) bytes in
-    blocksOf t 0 (take k numbers) parts ++ buildAbove t 1 ks (drop k numbers) (childrenOf (take k numbers) parts)
+    blocksOf t 0 nullAgBlock (take k numbers) parts ++ buildAbove t 1 ks (drop k numbers) (childrenOf (take k numbers) parts)
 
 abbrev pub planOf : Shape → List ℕ → List ℕ
 planOf s bytes = levelsOf (perLeaf s) (perNode s) (length bytes / s .record-length)

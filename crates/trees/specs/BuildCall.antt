@@ -14,7 +14,7 @@ use Rattle.codec.specs.Refcounts as refcount
 use Rattle.blocks.specs.declared.geometry.Geometry.{Geometry}
 use Rattle.blocks.specs.declared.kind.TreeKind.{TreeKind}
 use Rattle.blocks.specs.declared.kind.TreeKind.the-variants.{Rmap, Refcount}
-use Rattle.blocks.specs.Geometry.{geometryOk, nullAgBlock}
+use Rattle.blocks.specs.Geometry.{geometryOk}
 use Rattle.blocks.specs.Tree.{hasTree, recordLen}
 use Rattle.blocks.specs.Stamp.{stamped}
 use Rattle.trees.specs.Plan.{sum}
@@ -32,7 +32,7 @@ keysUnder Refcount b = refcountKeys (recordsOf refcounts b)
 
 abbrev pub layoutOf : Geometry → TreeKind → Layout
 layoutOf g kind =
-    record { shape = shapeOf g kind; keys = keysUnder kind; stamp = λ block level n b. stamped g kind block level n nullAgBlock nullAgBlock b }
+    record { shape = shapeOf g kind; keys = keysUnder kind; stamp = λ block level n x b. stamped g kind block level n (x .left) (x .right) b }
 
 -- ---- the questions
 

@@ -2,6 +2,7 @@
 -- Assumes nothing.
 use Prim.Native.Nat.{ℕ, _*_, _/_, _≤_}
 use mathlib.Core.Path.{_≡_}
+use mathlib.Core.Bool.{true}
 use mathlib.Core.List.{List}
 use lib.ListN.{length}
 use Rattle.codec.specs.Bytes.{withBytes}
@@ -11,6 +12,7 @@ use Rattle.blocks.specs.declared.kind.TreeKind.{TreeKind}
 use Rattle.blocks.specs.Tree.{recordLen}
 use Rattle.walks.specs.Walk.{Trace, perNode}
 use Rattle.walks.specs.WalkCall.{Lent, walkOf, report, blocksAfter, recordsAfter}
+use Rattle.walks.specs.Links.{saysLinked}
 use Rattle.trees.specs.Build.{planOf, rootOf}
 use Rattle.walks.specs.Shapes.{shapeOf}
 
@@ -30,7 +32,7 @@ abbrev pub walkBack : Geometry → TreeKind → List ℕ → List ℕ → List �
 walkBack g kind list numbers image m =
     walkOf g kind image (rootOf numbers) (levelsFor g kind list) m
 
--- it gives back the records byte for byte and the numbers, both in order, with one visit to each block
+-- it gives back the records byte for byte and the numbers, both in order, with one visit to each block, and every level is linked
 pub record Returned (g : Geometry) (kind : TreeKind) (list numbers image : List ℕ) (m : Lent) : Type 0 where
   pub reported : report (recordLen kind) (walkBack g kind list numbers image m)
       ≡ record {
@@ -39,3 +41,4 @@ pub record Returned (g : Geometry) (kind : TreeKind) (list numbers image : List 
       }
   pub records : (l : List ℕ) → recordsAfter (walkBack g kind list numbers image m) l ≡ withBytes l 0 list
   pub blocks : (l : List ℕ) → blocksAfter (levelsFor g kind list) (walkBack g kind list numbers image m) l ≡ withBytes l 0 numbers
+  pub linked : saysLinked (g .blocksize) image (levelsFor g kind list) (walkBack g kind list numbers image m) ≡ true

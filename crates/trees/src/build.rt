@@ -2,10 +2,12 @@
 ghost use mathlib.Core.Path.{_≡_};
 ghost use mathlib.Core.Bool.{true};
 ghost use Prim.Native.Nat.{_+_, _-_, _*_, _/_, _≤_, _<_};
-ghost use lib.ListN.{length, getD};
+ghost use lib.ListN.{length, getD, drop};
 ghost use Rattle.codec.specs.Bytes.{bytesAt, withBytes};
-ghost use Rattle.blocks.specs.Geometry.{geometryOk};
+ghost use Rattle.blocks.specs.Geometry.{geometryOk, nullAgBlock};
 ghost use Rattle.blocks.specs.Tree.{headerLen, hasTree, recordLen, keysLen};
+ghost use Rattle.blocks.specs.Stamp.{stamped};
+ghost use Rattle.walks.specs.Links.{next};
 ghost use Rattle.trees.specs.Plan.{shares, startOf, firstOf};
 ghost use Rattle.trees.specs.Build.{keysOf, leafPart, leafParts, nodePart, blockBytes, blocksOf, output};
 ghost use Rattle.trees.specs.BuildCall.{keysUnder, layoutOf, builtBytes, buildOutcome};
@@ -72,32 +74,60 @@ pub enum Built {
     Refused(BuildRefusal),
 }
 
+// Where a block goes, and the blocks before and after it on its level.
+struct Place {
+    number: u32,
+    left: u32,
+    right: u32,
+}
+
+// The block after the i-th of a level; all ones where it is the last.
+fn after(blocks: &[u32], i: usize) -> u32
+    requires { ⌜ i < length (now blocks) ⌝ }
+    ensures { λ r. ⌜ r ≡ next (drop (i + 1) (now (blocks .entry))) ⌝ }
+{
+    let j = i + 1;
+    if j < blocks.len() {
+        return blocks[j];
+    }
+    NULL_AGBLOCK
+}
+
+// The header of a block at its place.
+fn stamp_at(g: Geometry, kind: TreeKind, place: Place, level: u16, count: u16, b: &mut [u8])
+    requires { ⌜ (geometryOk g ≡ true) × (hasTree kind (g .version) ≡ true) × (headerLen (g .version) ≤ length (now b)) ⌝ }
+    ensures { λ _. ⌜ now (b .exit) ≡ stamped g kind (place .number) level count (place .left) (place .right) (now (b .entry)) ⌝ }
+{
+    stamp(
+        g,
+        kind,
+        AgBlock(place.number),
+        level,
+        count,
+        AgBlock(place.left),
+        AgBlock(place.right),
+        b,
+    );
+}
+
 // A leaf with these records.
-fn write_leaf(g: Geometry, kind: TreeKind, number: u32, count: u16, records: &[u8], b: &mut [u8])
+fn write_leaf(g: Geometry, kind: TreeKind, place: Place, count: u16, records: &[u8], b: &mut [u8])
     requires { ⌜ (geometryOk g ≡ true) × (hasTree kind (g .version) ≡ true) ⌝ }
     requires { ⌜ (length (now b) ≡ g .blocksize) × (headerLen (g .version) + length (now records) ≤ g .blocksize) ⌝ }
-    ensures { λ _. ⌜ now (b .exit) ≡ blockBytes (layoutOf g kind) 0 number (leafPart count (now (records .entry))) ⌝ }
+    ensures { λ _. ⌜ now (b .exit) ≡ blockBytes (layoutOf g kind) 0 (place .number) (record { left = place .left; right = place .right })
+        (leafPart count (now (records .entry))) ⌝ }
 {
     let head = header_len(g.version);
     zero8(b);
     copy(records, b, head);
-    stamp(
-        g,
-        kind,
-        AgBlock(number),
-        0,
-        count,
-        AgBlock(NULL_AGBLOCK),
-        AgBlock(NULL_AGBLOCK),
-        b,
-    );
+    stamp_at(g, kind, place, 0, count, b);
 }
 
 // The leaves, left to right.
 fn write_leaves(g: Geometry, kind: TreeKind, list: &[u8], blocks: &[u32], out: &mut [u8])
     requires { ⌜ Leaves g kind (now list) (now blocks) (now out) ⌝ }
     ensures { λ _. ⌜ now (out .exit) ≡ withBytes (now (out .entry)) 0 (output
-        (blocksOf (layoutOf g kind) 0 (now (blocks .entry)) (leafParts (layoutOf g kind)
+        (blocksOf (layoutOf g kind) 0 nullAgBlock (now (blocks .entry)) (leafParts (layoutOf g kind)
         (shares (length (now (list .entry)) / recordLen kind) (length (now (blocks .entry)))) (now (list .entry))))) ⌝ }
 {
     let w = kind.record_len();
@@ -106,21 +136,28 @@ fn write_leaves(g: Geometry, kind: TreeKind, list: &[u8], blocks: &[u32], out: &
     let k = blocks.len();
     let mut i = 0;
     let mut from = 0;
+    let mut left = NULL_AGBLOCK;
     while i < k {
         let count = share(n as u64, k as u64, i as u64) as usize;
         let to = from + count * w;
         let number = blocks[i];
+        let right = after(blocks, i);
         let a = i * size;
         let e = a + size;
         write_leaf(
             g,
             kind,
-            number,
+            Place {
+                number,
+                left,
+                right,
+            },
             count as u16,
             &list[from..to],
             &mut out[a..e],
         );
         from = to;
+        left = number;
         i += 1;
     }
 }
@@ -213,7 +250,7 @@ fn put_all_keys(
 fn write_node(
     g: Geometry,
     kind: TreeKind,
-    number: u32,
+    place: Place,
     list: &[u8],
     levels: &[u64],
     level: usize,
@@ -222,7 +259,7 @@ fn write_node(
     b: &mut [u8],
 )
     requires { ⌜ Node g kind (now list) (now levels) level child (now below) (now b) ⌝ }
-    ensures { λ _. ⌜ now (b .exit) ≡ blockBytes (layoutOf g kind) (level + 1) number
+    ensures { λ _. ⌜ now (b .exit) ≡ blockBytes (layoutOf g kind) (level + 1) (place .number) (record { left = place .left; right = place .right })
         (nodePart (layoutOf g kind) (levelChildren kind (now (list .entry)) (now (levels .entry)) level child (now (below .entry)))) ⌝ }
 {
     let head = header_len(g.version);
@@ -233,16 +270,7 @@ fn write_node(
     zero8(b);
     put_all_keys(kind, list, levels, level, child, below, b, head);
     put_pointers(below, b, head + most * keys);
-    stamp(
-        g,
-        kind,
-        AgBlock(number),
-        (level + 1) as u16,
-        count as u16,
-        AgBlock(NULL_AGBLOCK),
-        AgBlock(NULL_AGBLOCK),
-        b,
-    );
+    stamp_at(g, kind, place, (level + 1) as u16, count as u16, b);
 }
 
 // The nodes above a level, left to right.
@@ -265,16 +293,22 @@ fn write_nodes(
     let k = blocks.len();
     let mut i = 0;
     let mut child = 0;
+    let mut left = NULL_AGBLOCK;
     while i < k {
         let count = share(m as u64, k as u64, i as u64) as usize;
         let to = child + count;
         let number = blocks[i];
+        let right = after(blocks, i);
         let a = i * size;
         let e = a + size;
         write_node(
             g,
             kind,
-            number,
+            Place {
+                number,
+                left,
+                right,
+            },
             list,
             levels,
             level,
@@ -283,6 +317,7 @@ fn write_nodes(
             &mut out[a..e],
         );
         child = to;
+        left = number;
         i += 1;
     }
 }

@@ -1,6 +1,6 @@
-// Trees of the reverse map over blocks of 512 bytes, run: plans; a tree of three levels built, stored at scattered numbers and walked back;
-// builds and walks refused by each question. A walk's line ends with what became of the lists and scratches. `stdout` was worked out apart
-// from this code.
+// Trees of the reverse map over blocks of 512 bytes, run: plans; a tree of three levels built, stored at scattered numbers and walked back, whole
+// and with one link damaged; builds and walks refused by each question. A walk's line says whether the levels are linked, and ends with what
+// became of the lists and scratches. `stdout` was worked out apart from this code.
 ghost use Prim.Native.Nat.{_<_};
 use blocks::geometry::AgBlock;
 use blocks::geometry::Geometry;
@@ -22,8 +22,9 @@ use trees::build::Built;
 use trees::build::build;
 use trees::plan::PlanAnswer;
 use trees::plan::plan;
+use walks::walk::Linking;
 use walks::walk::Walked;
-use walks::walk::walk;
+use walks::walk::walk_linked;
 
 // A name, and a number in decimal.
 fn number(name: &[u8], n: u64) {
@@ -305,8 +306,10 @@ fn show_read(
     show_blocks(&blocks[0..visits]);
 }
 
-fn show(answer: Walked, stack: &[u32], scratch: &[u64], blocks: &[u32], list: &[u8]) {
-    match answer {
+fn show(answer: Linking, stack: &[u32], scratch: &[u64], blocks: &[u32], list: &[u8]) {
+    let walked = answer.walked;
+    let linked = answer.linked;
+    match walked {
         Walked::Read {
             visits,
             records,
@@ -314,6 +317,7 @@ fn show(answer: Walked, stack: &[u32], scratch: &[u64], blocks: &[u32], list: &[
         } => {
             number(b" read visits ", visits as u64);
             number(b" records ", records as u64);
+            either(linked, b" linked", b" not linked");
             show_read(visits, bytes, stack, scratch, blocks, list);
         }
         Walked::Refused { refusal, visits } => {
@@ -335,7 +339,7 @@ fn walk_in(
     blocks: &mut [u32],
     records: &mut [u8],
 ) {
-    let answer = walk(
+    let answer = walk_linked(
         g,
         TreeKind::Rmap,
         image,
@@ -441,6 +445,18 @@ fn copied_row(name: &[u8], block: u32) {
     walk_row(name, usual(), &image, block, 3, plenty());
 }
 
+// A walk of a tree of one leaf, of two records.
+fn single_row(name: &[u8]) {
+    let mut image = [0xEEu8; 10240];
+    let mut list = [0u8; 4800];
+    let mut out = [0u8; 512];
+    let at = numbers();
+    fill(&mut list);
+    build(usual(), TreeKind::Rmap, &list[0..48], &at[0..1], &mut out);
+    store(&out, 0, &mut image, 3);
+    walk_row(name, usual(), &image, 3, 1, plenty());
+}
+
 fn put_pointer(b: &mut [u8], i: u32, block: u32) {
     let at = 456 + (i as usize) * 4;
     if b.len() < at + 4 {
@@ -491,6 +507,17 @@ fn read() {
     tree_row(b"left half", usual(), 10240, 0, 2, plenty());
     tree_row(b"one leaf", usual(), 10240, 13, 1, plenty());
     damaged_row(b"a leaf met twice", 0, 463, 3, true);
+    single_row(b"a single leaf");
+}
+
+// Each row one link: the tree reads the same, and is not linked.
+fn links() {
+    damaged_row(b"a middle leaf's right link", 11, 15, 19, true);
+    damaged_row(b"a middle leaf's left link", 11, 11, 3, true);
+    damaged_row(b"the first leaf's left link", 3, 11, 19, true);
+    damaged_row(b"the last leaf's right link", 13, 15, 3, true);
+    damaged_row(b"a node's right link", 0, 15, 14, true);
+    damaged_row(b"the root's left link", 14, 11, 0, true);
 }
 
 fn refused_at_once() {
@@ -600,6 +627,7 @@ fn main() {
     builds();
     root();
     read();
+    links();
     refused_at_once();
     refused_by_lengths();
     refused_by_blocks();

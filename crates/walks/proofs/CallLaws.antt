@@ -2,19 +2,22 @@
 -- Assumes nothing.
 use Prim.Native.Nat.{ℕ, _-_, _≤_}
 use native.Mathlib.Omega.{arith}
-use mathlib.Core.Path.{_≡_, refl, sym, ap, _∙_}
+use mathlib.Core.Path.{_≡_, refl, sym, ap, _∙_, subst}
+use mathlib.Core.Bool.{false}
 use mathlib.Core.List.{List, [], _∷_}
 use lib.ListN.{length, take, replicate}
 use Rattle.codec.specs.Bytes.{withBytes}
 use Rattle.codec.specs.Question.{Outcome, done, refused}
 use Rattle.walks.specs.declared.walk.Walked.{Walked}
 use Rattle.walks.specs.declared.walk.Walked.the-variants.{Read, Refused}
+use Rattle.walks.specs.declared.walk.Linking.{Linking}
 use Rattle.walks.specs.declared.refusal.WalkRefusal.{WalkRefusal}
 use Rattle.walks.specs.Memory.{zeros}
 use Rattle.walks.specs.Walk.{Visit, visitOf, Trace, finished, spent, failed, met, run, visits, records, byLevel, Shape, lookIn}
 use Rattle.walks.specs.inner.WalkState.{seenOf, left}
 use Rattle.walks.specs.WalkCall.{Counts, Report, reportOf, report, walkIn}
 use Rattle.walks.specs.WalkAnswer.{walkNumber, walkValues, walkedReport, WalkIs}
+use Rattle.walks.specs.Links.{saysLinked, LinkingIs}
 use Rattle.walks.proofs.RunLaws.{fit-length}
 use Rattle.walks.proofs.WalkLaws.{finished-is, refused-is}
 
@@ -39,11 +42,12 @@ visits-within s image root levels limit places room w v n b e =
 
 module _ (w levels : ℕ) (t : Trace) (stack stack₁ stack′ scratch scratch₁ scratch′ blocks blocks′ out out₁ : List ℕ)
     (ls : length stack₁ ≡ length stack) (lc : length scratch₁ ≡ length scratch) (zs : stack′ ≡ zeros stack₁) (zc : scratch′ ≡ zeros scratch₁) where
-  pub call-read : (v n b : ℕ) → walkedReport (Read v n b) ≡ report w (done t) → left (Read v n b) t scratch₁ out out₁
+  pub call-read : (r : Walked) (v n b : ℕ) → r ≡ Read v n b → walkedReport (Read v n b) ≡ report w (done t) → left (Read v n b) t scratch₁ out out₁
       → blocks′ ≡ withBytes blocks 0 (byLevel levels (seenOf (take v scratch₁)))
-      → WalkIs w levels (done t) (Read v n b) stack stack′ scratch scratch′ blocks blocks′ out out₁
-  call-read v n b e f g =
-      record {
+      → WalkIs w levels (done t) r stack stack′ scratch scratch′ blocks blocks′ out out₁
+  call-read r v n b q e f g =
+      subst (λ (x : Walked). WalkIs w levels (done t) x stack stack′ scratch scratch′ blocks blocks′ out out₁) (sym q)
+      (record {
         answer = e;
         stack-is = zs ∙ ap (λ (k : ℕ). replicate k 0) ls;
         scratch-is = zc ∙ ap (λ (k : ℕ). replicate k 0) lc;
@@ -52,7 +56,7 @@ module _ (w levels : ℕ) (t : Trace) (stack stack₁ stack′ scratch scratch�
             ∙ ap (λ (vs : List Visit). withBytes blocks 0 (byLevel levels vs)) (f .0)
             ∙ sym (finished-is w (length (visits t)) (length (records t)) t _ _ (withBytes blocks 0 (byLevel levels (visits t))) (zeros blocks) (sym e));
         records-are = f .1 ∙ sym (finished-is w (length (visits t)) (length (records t)) t _ _ (withBytes out 0 (records t)) (zeros out) (sym e));
-      }
+      })
 
   pub call-refused : (r : Walked) (f : WalkRefusal) (v : ℕ) (out′ : List ℕ) → r ≡ Refused f v → walkedReport r ≡ report w (done t) → length out₁ ≡ length out
       → blocks′ ≡ zeros blocks → out′ ≡ zeros out₁ → WalkIs w levels (done t) r stack stack′ scratch scratch′ blocks blocks′ out out′
@@ -73,3 +77,13 @@ module _ (w levels : ℕ) (t : Trace) (stack stack₁ stack′ scratch scratch�
 pub untouched : (w levels : ℕ) (o : Outcome Trace) (f : WalkRefusal) (stack scratch blocks out : List ℕ) → o ≡ refused (walkNumber f) (walkValues f)
     → WalkIs w levels o (Refused f 0) stack stack scratch scratch blocks blocks out out
 untouched w levels o f stack scratch blocks out e = rw e (record { answer = refl; stack-is = refl; scratch-is = refl; blocks-are = refl; records-are = refl })
+
+-- and says no
+pub untouched-linking : (size w : ℕ) (image : List ℕ) (levels : ℕ) (o : Outcome Trace) (f : WalkRefusal) (r : Linking) (stack scratch blocks out : List ℕ)
+    → o ≡ refused (walkNumber f) (walkValues f) → r .walked ≡ Refused f 0 → r .linked ≡ false
+    → LinkingIs size w image levels o r stack stack scratch scratch blocks blocks out out
+untouched-linking size w image levels o f r stack scratch blocks out e is says =
+    record {
+      walks = subst (λ (x : Walked). WalkIs w levels o x stack stack scratch scratch blocks blocks out out) (sym is) (untouched w levels o f stack scratch blocks out e);
+      says = says ∙ sym (ap (saysLinked size image levels) e);
+    }

@@ -12,24 +12,21 @@ use lib.Dec.{leb}
 use lib.ListN.{length, getD, set, length-set}
 use lib.Seq.{getD-set-same, getD-set-other}
 use borrow.Author.Tests.{leb-true, ne-eqb}
-use Rattle.codec.specs.Question.{Values, none, Outcome, done, refused, mapOutcome}
+use Rattle.codec.specs.Question.{none, Outcome, done, refused, mapOutcome}
 use Rattle.blocks.specs.declared.geometry.Geometry.{Geometry}
 use Rattle.blocks.specs.declared.kind.TreeKind.{TreeKind}
 use Rattle.blocks.specs.declared.check.Header.{Header}
 use Rattle.blocks.specs.Geometry.{geometryOk}
 use Rattle.blocks.specs.Check.{checkBlock}
 use Rattle.blocks.proofs.Accepted.{accepted}
-use Rattle.walks.specs.declared.walk.Walked.{Walked}
-use Rattle.walks.specs.declared.walk.Walked.the-variants.{Read, Refused}
-use Rattle.walks.specs.Walk.{Visit, visitOf, Look, bad, good, Trace, run, fit, pointers, Shape, perNode, blockIn, firstPointer, under, lookOf, lookIn}
+use Rattle.walks.specs.Walk.{Visit, visitOf, Look, bad, good, Trace, run, fit, visits, pointers, Shape, perNode, blockIn, firstPointer, under, lookOf, lookIn}
 use Rattle.walks.specs.Shapes.{shapeOf, numrecsOf}
 use Rattle.walks.specs.inner.Path.{childAt, fanOf, childrenFrom, every, dueIn, pathOf, Opened, withPair, lowOf, Moved}
 use Rattle.walks.specs.declared.visit.Count.{Count}
-use Rattle.walks.specs.inner.WalkState.{stepOf, Wrote, left}
-use Rattle.walks.specs.WalkCall.{Report, walkIn}
-use Rattle.walks.specs.WalkAnswer.{walkedReport}
+use Rattle.walks.specs.inner.WalkState.{seenOf, stepOf, Wrote}
+use Rattle.walks.specs.WalkCall.{walkIn}
 use Rattle.walks.proofs.LookLaws.{part-long, node-most, under-leaf, under-node}
-use Rattle.walks.proofs.WalkLaws.{Walking, walking-first, walking-next, step-good}
+use Rattle.walks.proofs.WalkLaws.{restOf, rest-done, rest-good, Walking, walking-first, walking-next, step-good}
 use Rattle.walks.proofs.PathLaws.{path-below, path-cons, path-end, in-block}
 
 -- ---- a walk leaves no child out
@@ -233,7 +230,27 @@ module _ (g : Geometry) (kind : TreeKind) (image : List ℕ) (levels : ℕ) wher
         opened-open sh image stack block level levels below h lk o,
       )
 
--- a refused walk says nothing of what is left
-pub left-refused : (r : Walked) (n : ℕ) (x : Values) (p : ℕ) (t : Trace) (scratch out out′ : List ℕ) → walkedReport r ≡ record { outcome = refused n x; passed = p } → left r t scratch out out′
-left-refused (Read v m b) n x p t scratch out out′ e = let z : _≡_ {A = ℕ} 0 1 = cc (ap (λ (q : Report). q .outcome) e) in absurd (omega arith)
-left-refused (Refused r v) n x p t scratch out out′ e = tt
+  -- and it is the next of the visits to come
+  pub turn-visits : geometryOk g ≡ true → (limit places room : ℕ) (stack : List ℕ) (block level : ℕ) (c : Count) → Opened sh image stack (level + 1) levels → level < levels
+      → (n : Count) → c .visits < limit → (l : Look) → lookIn sh image (visitOf block level) ≡ l → stepOf places room c l ≡ done n
+      → visits (restOf (lookIn sh image) limit places room (c .visits) (c .bytes) (visitOf block level ∷ paths stack (level + 1)))
+      ≡ visitOf block level ∷ visits (restOf (lookIn sh image) limit places room (n .visits) (n .bytes) (paths (withPair stack block level) (lowOf level)))
+  unfolding stepOf visits
+  turn-visits ok limit places room stack block level c o h n v (bad m x) e step = let z : _≡_ {A = ℕ} 0 1 = cc in absurd (omega arith)
+  turn-visits ok limit places room stack block level c o h n v (good below bytes) e step =
+      let q = step-good places room c below bytes n step in
+      let lk = looked g kind ok image block level below bytes e in
+      let x : Visit = visitOf block level in
+      ap visits (rest-good (lookIn sh image) limit places room (c .visits) (c .bytes) x (paths stack (level + 1)) v below bytes e (q .0) (q .1))
+      ∙ ap (λ (u : List Visit). x ∷ visits (restOf (lookIn sh image) limit places room (c .visits + 1) (c .bytes + length bytes) u)) (path-open sh image stack block level levels below (o .places) (o .few) h lk)
+      ∙ ap (λ (m : Count). x ∷ visits (restOf (lookIn sh image) limit places room (m .visits) (m .bytes) (paths (withPair stack block level) (lowOf level)))) (sym (q .2))
+
+-- before the first visit all are to come, and where nothing is due none is
+pub visits-whole : {look : Visit → Look} {limit places room w : ℕ} {total : Trace} {out₀ scratch out : List ℕ} {b : ℕ} {due : List Visit}
+    → Walking look limit places room w total out₀ scratch out 0 b due → visits total ≡ visits (restOf look limit places room 0 b due)
+unfolding seenOf
+visits-whole k = k .seen
+
+pub visits-none : (look : Visit → Look) (limit places room v b : ℕ) (due : List Visit) → due ≡ [] → visits (restOf look limit places room v b due) ≡ []
+unfolding visits
+visits-none look limit places room v b due e = ap (λ (u : List Visit). visits (restOf look limit places room v b u)) e ∙ ap visits (rest-done look limit places room v b)

@@ -7,8 +7,10 @@ pub mod VisitLaws
 pub mod DescendLaws
 pub mod PathLaws
 pub mod CallLaws
+pub mod LinkLaws
 pub mod ForestLaws
 pub mod WalkMeaning
 pub mod WalkReasons
 pub mod FinishedWalks
+pub mod OneLink
 pub mod Steps

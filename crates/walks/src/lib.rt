@@ -1,5 +1,6 @@
-// Trees of a group read: lent memory, the look at a block, the blocks that are due, and the walk.
+// Trees of a group read: lent memory, the look at a block, the blocks that are due, the links of a level, and the walk.
 mod by_level;
+mod links;
 pub mod look;
 pub mod memory;
 mod path;

@@ -5,7 +5,7 @@ ghost use mathlib.Core.Bool.{true};
 ghost use Prim.Native.Nat.{_+_, _*_, _≤_, _<_};
 ghost use lib.ListN.{length};
 ghost use Rattle.blocks.specs.Geometry.{geometryOk};
-ghost use Rattle.walks.specs.Walk.{blockIn, perNode};
+ghost use Rattle.walks.specs.Walk.{blockIn, perNode, firstPointer};
 ghost use Rattle.walks.specs.Shapes.{shapeOf};
 ghost use Rattle.walks.specs.inner.Path.{childAt, fanOf, every, dueIn, fanIn, Opened, withPair, lowOf, Advanced};
 use blocks::geometry::Geometry;
@@ -32,16 +32,23 @@ fn fan(g: Geometry, image: &[u8], block: u32) -> usize
     be16(image, at + NUMRECS) as usize
 }
 
-// Its child i.
-fn child(g: Geometry, kind: TreeKind, image: &[u8], block: u32, i: usize) -> u32
+// Where the pointers of a node begin: after room for the capacity's keys. It is worked out once for a walk, since it takes a division.
+pub(crate) fn first_pointer(g: Geometry, kind: TreeKind) -> usize
+    requires { ⌜ geometryOk g ≡ true ⌝ }
+    ensures { λ r. ⌜ r ≡ firstPointer (shapeOf g kind) ⌝ }
+{
+    let most = block_capacity(kind, g.version, 1, g.blocksize as usize);
+    let keys = kind.keys_len();
+    header_len(g.version) + most * keys
+}
+
+// Its child i, where the pointers begin at `first`.
+fn child(g: Geometry, kind: TreeKind, image: &[u8], first: usize, block: u32, i: usize) -> u32
     requires { ⌜ (geometryOk g ≡ true) × ((block + 1) * g .blocksize ≤ length (now image)) × (i < perNode (shapeOf g kind)) ⌝ }
+    requires { ⌜ first ≡ firstPointer (shapeOf g kind) ⌝ }
     ensures { λ r. ⌜ r ≡ (childAt (shapeOf g kind) (blockIn (g .blocksize) (now (image .entry)) block) 0 i) .block ⌝ }
 {
-    let size = g.blocksize as usize;
-    let at = (block as usize) * size;
-    let most = block_capacity(kind, g.version, 1, size);
-    let keys = kind.keys_len();
-    let first = header_len(g.version) + most * keys;
+    let at = (block as usize) * (g.blocksize as usize);
     be32(image, at + (first + i * PTR_LEN))
 }
 
@@ -60,16 +67,18 @@ pub(crate) fn open(pairs: &mut [u32], block: u32, level: u32) -> u32
 }
 
 // The next block due on the pairs from level `low` up, each pair's later children before those above it. Its parent's pair then has the child
-// after it.
+// after it. The pointers of a node begin at `first`.
 pub(crate) fn advance(
     g: Geometry,
     kind: TreeKind,
     image: &[u8],
+    first: usize,
     pairs: &mut [u32],
     low: u32,
     levels: u32,
 ) -> Next
     requires { ⌜ (geometryOk g ≡ true) × Opened (shapeOf g kind) (now image) (now pairs) low levels ⌝ }
+    requires { ⌜ first ≡ firstPointer (shapeOf g kind) ⌝ }
     ensures { λ r. ⌜ Advanced (dueIn every (shapeOf g kind) (now (image .entry))) (fanIn (g .blocksize) (now (image .entry))) r low levels
         (now (pairs .entry)) (now (pairs .exit)) ⌝ }
 {
@@ -81,7 +90,7 @@ pub(crate) fn advance(
         let n = fan(g, image, block);
         if (i as usize) < n {
             pairs[at + 1] = i + 1;
-            let b = child(g, kind, image, block, i as usize);
+            let b = child(g, kind, image, first, block, i as usize);
             return Next::Block {
                 block: b,
                 level: level - 1,

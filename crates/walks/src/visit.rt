@@ -9,11 +9,13 @@ ghost use Rattle.blocks.specs.Geometry.{geometryOk};
 ghost use Rattle.walks.specs.Walk.{visitOf, good, lookIn};
 ghost use Rattle.walks.specs.Shapes.{shapeOf};
 ghost use Rattle.walks.specs.WalkAnswer.{lookedOutcome};
-ghost use Rattle.walks.specs.inner.WalkState.{stepOutcome, stepOf, onward, Fitting, Wrote};
+ghost use Rattle.walks.specs.Links.{leftsibOf, rightsibOf};
+ghost use Rattle.walks.specs.inner.WalkState.{stepOutcome, Beside, stepOf, onward, Fitting, Wrote};
 use crate::by_level::LEVEL_STEP;
 use crate::look::Looked;
 use crate::look::look;
 use crate::refusal::WalkRefusal;
+use blocks::check::Header;
 use blocks::geometry::AgBlock;
 use blocks::geometry::Geometry;
 use blocks::kind::TreeKind;
@@ -25,9 +27,21 @@ pub(crate) struct Count {
     pub(crate) bytes: usize,
 }
 
-// The counts after a visit, or the refusal that ends the walk.
+// The blocks that a block names before and after it on its level.
+pub(crate) struct Siblings {
+    pub(crate) left: u32,
+    pub(crate) right: u32,
+}
+
+// A block that was read: the counts after it, and its siblings.
+pub(crate) struct Seen {
+    pub(crate) count: Count,
+    pub(crate) siblings: Siblings,
+}
+
+// What a visit comes to: the block read, or the refusal that ends the walk.
 pub(crate) enum Step {
-    Next(Count),
+    Next(Seen),
     Stop(WalkRefusal),
 }
 
@@ -35,6 +49,7 @@ pub(crate) enum Step {
 fn enter(
     bytes: &[u8],
     place: u64,
+    siblings: Siblings,
     scratch: &mut [u64],
     out: &mut [u8],
     places: usize,
@@ -44,6 +59,7 @@ fn enter(
     ensures { λ r. ⌜ stepOutcome r ≡ stepOf places (length (now (out .entry))) c (good [] (now (bytes .entry))) ⌝ }
     ensures { λ r. ⌜ (now (scratch .exit) ≡ onward (stepOutcome r) (now (scratch .entry)) (c .visits) (place ∷ []))
         × (now (out .exit) ≡ onward (stepOutcome r) (now (out .entry)) (c .bytes) (now (bytes .entry))) ⌝ }
+    ensures { λ r. ⌜ Beside r (siblings .left) (siblings .right) ⌝ }
 {
     let visits = c.visits;
     let at = c.bytes;
@@ -56,10 +72,21 @@ fn enter(
     }
     copy(bytes, out, at);
     scratch[visits] = place;
-    Step::Next(Count {
+    let count = Count {
         visits: visits + 1,
         bytes: at + len,
-    })
+    };
+    Step::Next(Seen { count, siblings })
+}
+
+// The siblings that a checked header names.
+fn siblings_of(header: Header) -> Siblings
+    ensures { λ r. ⌜ (r .left ≡ header .leftsib .0) × (r .right ≡ header .rightsib .0) ⌝ }
+{
+    Siblings {
+        left: header.leftsib.0,
+        right: header.rightsib.0,
+    }
 }
 
 // The look's answer as a visit has it: its refusal, unchanged, which ends the walk; a good block leaves the counts as they are.
@@ -68,7 +95,10 @@ fn stop(answer: Looked, c: Count) -> Step
 {
     match answer {
         Looked::Refused(refusal) => Step::Stop(refusal),
-        Looked::Good(_) => Step::Next(c),
+        Looked::Good(header) => {
+            let siblings = siblings_of(header);
+            Step::Next(Seen { count: c, siblings })
+        }
     }
 }
 
@@ -89,16 +119,18 @@ pub(crate) fn visit(
     ensures { λ r. ⌜ stepOutcome r ≡ stepOf places (length (now (out .entry))) c (lookIn (shapeOf g kind) (now (image .entry)) (visitOf block level)) ⌝ }
     ensures { λ r. ⌜ Wrote (stepOutcome r) (visitOf block level) (lookIn (shapeOf g kind) (now (image .entry)) (visitOf block level)) c
         (now (scratch .entry)) (now (scratch .exit)) (now (out .entry)) (now (out .exit)) ⌝ }
+    ensures { λ r. ⌜ Beside r (leftsibOf (g .blocksize) (now (image .entry)) block) (rightsibOf (g .blocksize) (now (image .entry)) block) ⌝ }
 {
     let answer = look(g, kind, image, AgBlock(block), level);
     let Looked::Good(header) = answer else {
         return stop(answer, c);
     };
+    let siblings = siblings_of(header);
     let place = (level as u64) * LEVEL_STEP + (block as u64);
     if level == 0 {
         let from = (block as usize) * (g.blocksize as usize) + header.body;
         let to = from + (header.numrecs as usize) * kind.record_len();
-        return enter(&image[from..to], place, scratch, out, places, c);
+        return enter(&image[from..to], place, siblings, scratch, out, places, c);
     }
-    enter(&image[0..0], place, scratch, out, places, c)
+    enter(&image[0..0], place, siblings, scratch, out, places, c)
 }

@@ -1,5 +1,6 @@
-// The walk of a tree over lent memory, left to right and depth first (`EveryWalk` of specs/Forest.antt).
+// The walk of a tree over lent memory, left to right and depth first (`EveryWalk` of specs/Forest.antt), and whether its levels are linked.
 ghost use mathlib.Core.Path.{_≡_};
+ghost use mathlib.Core.Bool.{false};
 ghost use Prim.Native.Nat.{_/_, _≤_, _<_, _^_, max};
 ghost use lib.ListN.{length, take};
 ghost use Rattle.codec.specs.Bytes.{withBytes};
@@ -12,13 +13,18 @@ ghost use Rattle.walks.specs.Shapes.{shapeOf};
 ghost use Rattle.walks.specs.declared.walk.Walked.the-variants.{Read, Refused};
 ghost use Rattle.walks.specs.WalkCall.{walkIn, walkOf, lent, report};
 ghost use Rattle.walks.specs.WalkAnswer.{walkedReport, WalkIs};
+ghost use Rattle.walks.specs.Links.{saysLinked, LinkingIs};
 ghost use Rattle.walks.specs.inner.WalkState.{seenOf, left, Begun, FirstIs};
 use crate::by_level::order;
+use crate::links::NOTHING;
+use crate::links::all_linked;
+use crate::links::follow;
 use crate::memory::zero8;
 use crate::memory::zero32;
 use crate::memory::zero64;
 use crate::path::Next;
 use crate::path::advance;
+use crate::path::first_pointer;
 use crate::path::open;
 use crate::refusal::WalkRefusal;
 use crate::visit::Count;
@@ -27,6 +33,7 @@ use crate::visit::visit;
 use blocks::check::BlockRefusal;
 use blocks::geometry::AgBlock;
 use blocks::geometry::Geometry;
+use blocks::geometry::NULL_AGBLOCK;
 use blocks::kind::TreeKind;
 use blocks::kind::block_capacity;
 
@@ -43,11 +50,21 @@ pub enum Walked {
     },
 }
 
+// A walk, and whether every level of the tree is linked: each block names the one before it on its level and the one after, all ones at the ends. Where the
+// walk is refused the answer is no.
+pub struct Linking {
+    pub walked: Walked,
+    pub linked: bool,
+}
+
 // A walk that is refused after so many visits.
-fn refused(refusal: WalkRefusal, visits: usize) -> Walked
-    ensures { λ r. ⌜ r ≡ Refused refusal visits ⌝ }
+fn refused(refusal: WalkRefusal, visits: usize) -> Linking
+    ensures { λ r. ⌜ (r .walked ≡ Refused refusal visits) × (r .linked ≡ false) ⌝ }
 {
-    Walked::Refused { refusal, visits }
+    Linking {
+        walked: Walked::Refused { refusal, visits },
+        linked: false,
+    }
 }
 
 // A walk that has read its last block.
@@ -62,7 +79,8 @@ fn read_all(kind: TreeKind, c: Count) -> Walked
     }
 }
 
-// Visits every block that is due, from the root on; 13 before each. One turn is one visit: going back to a node is none.
+// Visits every block that is due, from the root on, and follows the links of each level; 13 before each visit. One turn is one visit: going back to a
+// node is none.
 fn descend(
     g: Geometry,
     kind: TreeKind,
@@ -74,20 +92,27 @@ fn descend(
     scratch: &mut [u64],
     out: &mut [u8],
     places: usize,
-) -> Walked
+) -> Linking
     requires { ⌜ Begun (geometryOk g) levels (length (now stack)) (length (now scratch)) places ⌝ }
     requires { ⌜ limit < 2 ^ 63 ⌝ }
-    ensures { λ r. ⌜ walkedReport r ≡ report (recordLen kind) (done (walkIn (shapeOf g kind) (now (image .entry)) root levels limit places
+    ensures { λ r. ⌜ walkedReport (r .walked) ≡ report (recordLen kind) (done (walkIn (shapeOf g kind) (now (image .entry)) root levels limit places
         (length (now (out .entry))))) ⌝ }
-    ensures { λ r. ⌜ left r (walkIn (shapeOf g kind) (now (image .entry)) root levels limit places (length (now (out .entry)))) (now (scratch .exit))
+    ensures { λ r. ⌜ left (r .walked) (walkIn (shapeOf g kind) (now (image .entry)) root levels limit places (length (now (out .entry)))) (now (scratch .exit))
         (now (out .entry)) (now (out .exit)) ⌝ }
+    ensures { λ r. ⌜ r .linked ≡ saysLinked (g .blocksize) (now (image .entry)) levels (done (walkIn (shapeOf g kind) (now (image .entry)) root levels limit
+        places (length (now (out .entry))))) ⌝ }
 {
+    let first = first_pointer(g, kind);
     let mut c = Count {
         visits: 0,
         bytes: 0,
     };
     let mut block = root;
     let mut level = levels - 1;
+    // of each level: the block met last, and the one that it named as next
+    let mut before = [NULL_AGBLOCK; 9];
+    let mut named = [NOTHING; 9];
+    let mut linked = true;
     loop {
         let visits = c.visits;
         if limit <= visits {
@@ -96,12 +121,18 @@ fn descend(
         let step = visit(g, kind, image, block, level as u16, scratch, out, places, c);
         match step {
             Step::Stop(refusal) => return refused(refusal, visits + 1),
-            Step::Next(after) => c = after,
+            Step::Next(seen) => {
+                c = seen.count;
+                let at = level as usize;
+                linked = follow(&mut before, &mut named, linked, block, at, seen.siblings);
+            }
         }
         let low = open(stack, block, level);
-        let next = advance(g, kind, image, stack, low, levels);
+        let next = advance(g, kind, image, first, stack, low, levels);
         let Next::Block { block: b, level: l } = next else {
-            return read_all(kind, c);
+            let walked = read_all(kind, c);
+            let linked = all_linked(&named, linked, levels as usize);
+            return Linking { walked, linked };
         };
         block = b;
         level = l;
@@ -142,10 +173,10 @@ fn walk_tree(
     scratch: &mut [u64],
     blocks: &mut [u32],
     out: &mut [u8],
-) -> Walked
+) -> Linking
     requires { ⌜ Begun (geometryOk g) levels (length (now stack)) (length (now scratch)) (length (now blocks)) ⌝ }
     requires { ⌜ limit < 2 ^ 63 ⌝ }
-    ensures { λ r. ⌜ WalkIs (recordLen kind) levels (done (walkIn (shapeOf g kind) (now (image .entry)) root levels limit
+    ensures { λ r. ⌜ LinkingIs (g .blocksize) (recordLen kind) (now (image .entry)) levels (done (walkIn (shapeOf g kind) (now (image .entry)) root levels limit
         (length (now (blocks .entry))) (length (now (out .entry))))) r (now (stack .entry)) (now (stack .exit)) (now (scratch .entry))
         (now (scratch .exit)) (now (blocks .entry)) (now (blocks .exit)) (now (out .entry)) (now (out .exit)) ⌝ }
 {
@@ -162,11 +193,12 @@ fn walk_tree(
         out,
         places,
     );
+    let walked = end.walked;
     let Walked::Read {
         visits,
         records: _,
         bytes: _,
-    } = end
+    } = walked
     else {
         wipe(stack, scratch, blocks, out);
         return end;
@@ -221,11 +253,8 @@ fn ask_first(
     First::Ready
 }
 
-// Walks a tree of a group from its root, left to right and depth first (`EveryWalk` of specs/Forest.antt): its records in order into `records`,
-// its blocks by level, leaves first, into `blocks`. `image` is the group, block n at n times the block size. Questions 1, 11 and 12; then, at each
-// block, 13, 14, 3 to 10 and 15. `stack` and `scratch` are zero afterwards, and so are both lists where 13 or a later question refused; 1, 11 and
-// 12 touch nothing.
-pub fn walk(
+// The walk, and whether every level of the tree is linked. It is lent what `walk` is lent, asks the same and leaves the same.
+pub fn walk_linked(
     g: Geometry,
     kind: TreeKind,
     image: &[u8],
@@ -235,8 +264,8 @@ pub fn walk(
     scratch: &mut [u64],
     blocks: &mut [u32],
     records: &mut [u8],
-) -> Walked
-    ensures { λ r. ⌜ WalkIs (recordLen kind) levels (walkOf g kind (now (image .entry)) (root .0) levels
+) -> Linking
+    ensures { λ r. ⌜ LinkingIs (g .blocksize) (recordLen kind) (now (image .entry)) levels (walkOf g kind (now (image .entry)) (root .0) levels
         (lent (now (stack .entry)) (now (scratch .entry)) (now (blocks .entry)) (now (records .entry)))) r (now (stack .entry)) (now (stack .exit))
         (now (scratch .entry)) (now (scratch .exit)) (now (blocks .entry)) (now (blocks .exit)) (now (records .entry)) (now (records .exit)) ⌝ }
 {
@@ -259,4 +288,37 @@ pub fn walk(
             )
         }
     }
+}
+
+// Walks a tree of a group from its root, left to right and depth first (`EveryWalk` of specs/Forest.antt): its records in order into `records`,
+// its blocks by level, leaves first, into `blocks`. `image` is the group, block n at n times the block size. Questions 1, 11 and 12; then, at each
+// block, 13, 14, 3 to 10 and 15. `stack` and `scratch` are zero afterwards, and so are both lists where 13 or a later question refused; 1, 11 and
+// 12 touch nothing.
+pub fn walk(
+    g: Geometry,
+    kind: TreeKind,
+    image: &[u8],
+    root: AgBlock,
+    levels: u32,
+    stack: &mut [u32],
+    scratch: &mut [u64],
+    blocks: &mut [u32],
+    records: &mut [u8],
+) -> Walked
+    ensures { λ r. ⌜ WalkIs (recordLen kind) levels (walkOf g kind (now (image .entry)) (root .0) levels
+        (lent (now (stack .entry)) (now (scratch .entry)) (now (blocks .entry)) (now (records .entry)))) r (now (stack .entry)) (now (stack .exit))
+        (now (scratch .entry)) (now (scratch .exit)) (now (blocks .entry)) (now (blocks .exit)) (now (records .entry)) (now (records .exit)) ⌝ }
+{
+    let linking = walk_linked(
+        g,
+        kind,
+        image,
+        root,
+        levels,
+        stack,
+        scratch,
+        blocks,
+        records,
+    );
+    linking.walked
 }

@@ -9,7 +9,7 @@ use Rattle.codec.specs.Bytes.{bytesAt, beBytes}
 use Rattle.blocks.specs.declared.geometry.Geometry.{Geometry}
 use Rattle.blocks.specs.declared.kind.TreeKind.{TreeKind}
 use Rattle.blocks.specs.declared.kind.TreeKind.the-variants.{Rmap, Refcount}
-use Rattle.blocks.specs.Geometry.{geometryOk}
+use Rattle.blocks.specs.Geometry.{geometryOk, nullAgBlock}
 use Rattle.blocks.specs.Tree.{hasTree, recordLen}
 use Rattle.trees.specs.Plan.{sum, shares, firstOf}
 use Rattle.walks.specs.Walk.{perLeaf, perNode}
@@ -91,7 +91,7 @@ pub record Nodes (g : Geometry) (kind : TreeKind) (list levels : List ℕ) (leve
 
 abbrev pub nodesAbove : Geometry → TreeKind → List ℕ → List ℕ → ℕ → List ℕ → List ℕ → List Block
 nodesAbove g kind list levels level below blocks =
-    blocksOf (layoutOf g kind) (level + 1) blocks
+    blocksOf (layoutOf g kind) (level + 1) nullAgBlock blocks
     (nodeParts (layoutOf g kind) (shares (length below) (length blocks)) (levelChildren kind list levels level 0 below))
 
 -- the levels above the leaves

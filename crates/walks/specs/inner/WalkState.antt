@@ -46,8 +46,13 @@ nextOf c bytes = record { visits = c .visits + 1; bytes = c .bytes + length byte
 
 -- a visit: the counts after it, or its refusal
 abbrev pub stepOutcome : Step → Outcome Count
-stepOutcome (Next c) = done c
+stepOutcome (Next s) = done (s .count)
 stepOutcome (Stop r) = refused (walkNumber r) (walkValues r)
+
+-- the siblings that a visit hands back, where the block was read
+abbrev pub Beside : Step → ℕ → ℕ → Type 0
+Beside (Next s) left right = (s .siblings .left ≡ left) × (s .siblings .right ≡ right)
+Beside (Stop r) left right = Unit {0}
 
 -- the counts after a look at a block, or its refusal: 15 asks about the places of the block list and the bytes of the record list
 unfoldable pub stepOf : ℕ → ℕ → Count → Look → Outcome Count

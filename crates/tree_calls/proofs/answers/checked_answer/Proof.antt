@@ -13,8 +13,11 @@ enum-known-checked c = search needs
 cast-t5 : tie.Need-cast-t5
 cast-t5 c = search needs
 
-cast-t6 : tie.Need-cast-t6
-cast-t6 c = search needs
+cast-t7 : tie.Need-cast-t7
+cast-t7 c = search needs
+
+cast-t8 : tie.Need-cast-t8
+cast-t8 c = search needs
 
 enum-known-checked-2 : tie.Need-enum-known-checked-2
 enum-known-checked-2 c = search needs
@@ -26,7 +29,7 @@ refused-requires : tie.Need-refused-requires
 refused-requires c κs = search needs
 
 returns : tie.Need-returns
-returns c = rw (c .before .before .before .checked .given .1) (record { number = refl; figures = refl })
+returns c = rw (c .before .before .before .before .checked .given .1) (record { number = refl; figures = refl })
 
 returns-2 : tie.Need-returns-2
 returns-2 c = rw (c .before .before .before .checked2 .given .1) (refusal-says headerFigures (c .before .told .result) (c .before .told .ensures) (c .refused .ensures))
@@ -37,7 +40,8 @@ checked-answer-spec =
     (tie.spec
     enum-known-checked
     cast-t5
-    cast-t6
+    cast-t7
+    cast-t8
     enum-known-checked-2
     told-requires
     refused-requires

@@ -7,7 +7,6 @@ use native.Mathlib.Omega.{arith}
 use lib.ListN.{length, length-replicate}
 use denote.Ref.{now}
 use Rattle.codec.specs.Bytes.{withBytes}
-use Rattle.blocks.specs.Geometry.{nullAgBlock}
 use Rattle.blocks.specs.Stamp.{stamped}
 use Rattle.blocks.proofs.Laws.{blocksize-within}
 use Rattle.trees.specs.Build.{keysOf}
@@ -69,12 +68,12 @@ returns c =
     let h = c .before .before .before .before .before .before .before .before .before .before .before .before .before .before .before .before .before .before .before .header-len in
     let far = h .result + (a .g .blocksize - h .result) / c .before .before .before .before .before .before .before .before .before .before .before .before .before .before .before .before .before .entry-len .result * c .before .before .before .before .before .before .before .before .before .before .before .before .before .before .before .before .keys-len .result in
     let cs = levelChildren (a .kind) (now (a .list)) (now (a .levels)) (a .level) (a .child) (now (a .below)) in
-    c .before .before .stamp .ensures
-    ∙ ap (stamped (a .g) (a .kind) (a .number) (a .level + 1) (length (now (a .below))) nullAgBlock nullAgBlock)
+    c .before .before .stamp-at .ensures
+    ∙ ap (stamped (a .g) (a .kind) (a .place .number) (a .level + 1) (length (now (a .below))) (a .place .left) (a .place .right))
     (moved _ _ (pointerBytes (now (a .below))) _ far (c .before .before .before .before .before .before .put-pointers .ensures) (omega arith)
     ∙ ap (λ (x : List ℕ). withBytes x far (pointerBytes (now (a .below))))
     (c .before .before .before .before .before .before .before .before .before .before .put-all-keys .ensures ∙ ap (λ (x : List ℕ). withBytes x (h .result) (keysOf (keysUnder (a .kind)) cs)) (c .before .before .before .before .before .before .before .before .before .before .before .before .before .before .zero8 .ensures)))
-    ∙ room-at (c .before .before .before .before .before .before .before .before .before .before .before .before .before .before .before .before) .made (a .number)
+    ∙ room-at (c .before .before .before .before .before .before .before .before .before .before .before .before .before .before .before .before) .made (a .place .number) (record { left = a .place .left; right = a .place .right })
 
 mul-put-pointers : tie.Need-mul-put-pointers
 mul-put-pointers c = omega (arith, room-at (c .before .before .before .before .before .before .before .before .before) .room-in)
@@ -85,17 +84,17 @@ add-put-pointers c = omega (arith, room-at (c .before .before .before .before .b
 put-pointers-requires : tie.Need-put-pointers-requires
 put-pointers-requires c κs = omega (arith, room-at (c .before .before .before .before .before .before .before .before .before) .pointers-in, c .before .before .before .before .before .before .before .before .before .before .before .before .before .before .before .before .before .pre .long)
 
-add-stamp : tie.Need-add-stamp
-add-stamp c = omega (arith, c .before .before .before .before .before .before .before .before .before .before .before .before .before .before .before .before .before .before .before .before .pre .shallow)
+add-stamp-at : tie.Need-add-stamp-at
+add-stamp-at c = omega (arith, c .before .before .before .before .before .before .before .before .before .before .before .before .before .before .before .before .before .before .before .before .pre .shallow)
 
-cast-stamp : tie.Need-cast-stamp
-cast-stamp c = omega (arith, c .before .before .before .before .before .before .before .before .before .before .before .before .before .before .before .before .before .before .before .before .pre .shallow)
+cast-stamp-at : tie.Need-cast-stamp-at
+cast-stamp-at c = omega (arith, c .before .before .before .before .before .before .before .before .before .before .before .before .before .before .before .before .before .before .before .before .pre .shallow)
 
-cast-stamp-2 : tie.Need-cast-stamp-2
-cast-stamp-2 c = omega (arith, room-at (c .before .before .before .before .before .before .before .before .before .before .before .before) .small)
+cast-stamp-at-2 : tie.Need-cast-stamp-at-2
+cast-stamp-at-2 c = omega (arith, room-at (c .before .before .before .before .before .before .before .before .before .before .before .before) .small)
 
-stamp-requires : tie.Need-stamp-requires
-stamp-requires c κs =
+stamp-at-requires : tie.Need-stamp-at-requires
+stamp-at-requires c κs =
     let st = c .before .before .before .before .before .before .before .before .before .before .before .before .before .before .before .before .before .before .before .before .before in
     (st .pre .given .ok, st .pre .given .tree, omega (arith, room-at (c .before .before .before .before .before .before .before .before .before .before .before .before .before) .header, st .pre .long))
 
@@ -117,9 +116,9 @@ write-node-spec =
     mul-put-pointers
     add-put-pointers
     put-pointers-requires
-    add-stamp
-    cast-stamp
-    cast-stamp-2
-    stamp-requires
+    add-stamp-at
+    cast-stamp-at
+    cast-stamp-at-2
+    stamp-at-requires
     same-length
     returns)

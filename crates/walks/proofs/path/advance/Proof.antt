@@ -14,11 +14,11 @@ use Rattle.walks.proofs.path.advance.Statement.{statement}
 use Rattle.walks.proofs.path.advance.Tie as tie
 
 abbrev Inv-loop : tie.InvT-loop
-Inv-loop g kind image pairs₀ low levels level₀ pairs level =
+Inv-loop g kind image first pairs₀ low levels level₀ pairs level =
     (low ≤ level) × (pairs ≡ pairs₀) × (level ≤ levels) × Coming every (shapeOf g kind) image pairs low levels level level
 
 abbrev μ-loop : tie.MeasureT-loop
-μ-loop g kind image pairs₀ low levels level₀ pairs level = levels - level
+μ-loop g kind image first pairs₀ low levels level₀ pairs level = levels - level
 
 -- the pairs in a turn, which are those at the start
 opened : (c : tie.In-loop Inv-loop μ-loop) → (let l = c .before .loop in let a = c .before .before .before .before .args in
@@ -26,7 +26,7 @@ opened : (c : tie.In-loop Inv-loop μ-loop) → (let l = c .before .loop in let 
 opened c =
     let l = c .before .loop in
     let s = c .before .before .before .before in
-    subst (λ (p : List ℕ). Opened (shapeOf (s .args .g) (s .args .kind)) (s .args .image .now) p (s .args .low) (s .args .levels)) (sym (l .inv .1)) (s .pre .1)
+    subst (λ (p : List ℕ). Opened (shapeOf (s .args .g) (s .args .kind)) (s .args .image .now) p (s .args .low) (s .args .levels)) (sym (l .inv .1)) (s .pre .0 .1)
 
 long : (c : tie.In-loop Inv-loop μ-loop) → c .before .loop .level * 2 + 1 < length (c .before .loop .pairs)
 long c = omega (arith, opened c .places, opened c .few, c .loop-test .taken)
@@ -40,10 +40,10 @@ found c =
     let t = c .before .before .before in
     let l = t .before .loop in
     let s = t .before .before .before .before in
-    (c .fan .ensures, opened t .most (l .level) (l .inv .0) (t .loop-test .taken), capacity-small (s .args .g) (s .args .kind) 1 (s .pre .0))
+    (c .fan .ensures, opened t .most (l .level) (l .inv .0) (t .loop-test .taken), capacity-small (s .args .g) (s .args .kind) 1 (s .pre .0 .0))
 
 loop-holds : tie.Need-loop-holds Inv-loop μ-loop
-loop-holds c = let s = c .before .before in (omega arith, refl, s .pre .1 .within, refl)
+loop-holds c = let s = c .before .before in (omega arith, refl, s .pre .0 .1 .within, refl)
 
 cast-at : tie.Need-cast-at Inv-loop μ-loop
 cast-at c = omega (arith, long c, opened c .places, opened c .few, c .loop-test .taken)
@@ -71,7 +71,7 @@ fan-requires c κs =
     let t = c .before .before in
     let l = t .before .loop in
     let s = t .before .before .before .before in
-    (s .pre .0, opened t .inside (l .level) (l .inv .0) (t .loop-test .taken))
+    (s .pre .0 .0, opened t .inside (l .level) (l .inv .0) (t .loop-test .taken))
 
 cast-if1 : tie.Need-cast-if1 Inv-loop μ-loop
 cast-if1 c =
@@ -101,10 +101,10 @@ child-requires c κs =
     let l = t .before .loop in
     let s = t .before .before .before .before in
     let f = found (c .before) in
-    (s .pre .0, opened t .inside (l .level) (l .inv .0) (t .loop-test .taken), omega (arith, c .if1 .taken, f .0, f .1))
+    ((s .pre .0 .0, opened t .inside (l .level) (l .inv .0) (t .loop-test .taken), omega (arith, c .if1 .taken, f .0, f .1)), s .pre .1)
 
-sub-t19 : tie.Need-sub-t19 Inv-loop μ-loop
-sub-t19 c = let t = c .before .before .before .before .before in omega (arith, opened t .above, t .before .loop .inv .0)
+sub-t20 : tie.Need-sub-t20 Inv-loop μ-loop
+sub-t20 c = let t = c .before .before .before .before .before in omega (arith, opened t .above, t .before .loop .inv .0)
 
 same-length : tie.Need-same-length Inv-loop μ-loop
 same-length c =
@@ -186,7 +186,7 @@ advance-spec =
     slice-write-pairs
     cast-child
     child-requires
-    sub-t19
+    sub-t20
     same-length
     returns
     add-level

@@ -12,7 +12,7 @@ use Rattle.walks.proofs.visit.enter.Tie as tie
 returns : tie.Need-returns
 returns c =
     let a = c .before .before .before .before .args in
-    (sym (step-full (a .places) (length (now (a .out))) (a .c) [] (now (a .bytes)) (c .if1 .taken)), (refl, refl))
+    (sym (step-full (a .places) (length (now (a .out))) (a .c) [] (now (a .bytes)) (c .if1 .taken)), ((refl, refl), tt))
 
 sub-if2 : tie.Need-sub-if2
 sub-if2 c = search needs
@@ -20,7 +20,7 @@ sub-if2 c = search needs
 returns-2 : tie.Need-returns-2
 returns-2 c =
     let a = c .before .before .before .before .before .args in
-    (sym (step-no-room (a .places) (length (now (a .out))) (a .c) [] (now (a .bytes)) (c .if2 .taken)), (refl, refl))
+    (sym (step-no-room (a .places) (length (now (a .out))) (a .c) [] (now (a .bytes)) (c .if2 .taken)), ((refl, refl), tt))
 
 copy-requires : tie.Need-copy-requires
 copy-requires c κs = search needs
@@ -31,11 +31,11 @@ mul-scratch c = search needs
 slice-write-scratch : tie.Need-slice-write-scratch
 slice-write-scratch c = search needs
 
-add-t13 : tie.Need-add-t13
-add-t13 c = search needs
+add-t15 : tie.Need-add-t15
+add-t15 c = search needs
 
-add-t12 : tie.Need-add-t12
-add-t12 c = search needs
+add-t14 : tie.Need-add-t14
+add-t14 c = search needs
 
 same-length : tie.Need-same-length
 same-length c = search needs
@@ -49,7 +49,7 @@ returns-3 c =
     let s = t .before .before .before .before .before in
     let a = s .args in (
       sym (step-next (a .places) (length (now (a .out))) (a .c) [] (now (a .bytes)) (t .before .if1 .left) (t .if2 .left)),
-      (withBytes-one (now (a .scratch)) (a .c .visits) (a .place) (omega (arith, t .before .if1 .left, s .pre .0)), c .before .before .copy .ensures),
+      ((withBytes-one (now (a .scratch)) (a .c .visits) (a .place) (omega (arith, t .before .if1 .left, s .pre .0)), c .before .before .copy .ensures), (refl, refl)),
     )
 
 pub enter-spec : {M : Type 1} → statement M
@@ -62,8 +62,8 @@ enter-spec =
     copy-requires
     mul-scratch
     slice-write-scratch
-    add-t13
-    add-t12
+    add-t15
+    add-t14
     same-length
     same-length-2
     returns-3)

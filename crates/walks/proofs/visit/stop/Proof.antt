@@ -9,14 +9,17 @@ use Rattle.walks.proofs.visit.stop.Tie as tie
 enum-known-answer : tie.Need-enum-known-answer
 enum-known-answer c = search needs
 
-enum-told : tie.Need-enum-told
-enum-told c = search needs
+enum-known-answer-2 : tie.Need-enum-known-answer-2
+enum-known-answer-2 c = search needs
+
+siblings-of-requires : tie.Need-siblings-of-requires
+siblings-of-requires c κs = search needs
 
 returns : tie.Need-returns
 returns c = sym (ap (λ (x : Looked). mapOutcome (λ h. c .before .before .before .args .c) (lookedOutcome x)) (c .before .answer .given .1))
 
 returns-2 : tie.Need-returns-2
-returns-2 c = sym (ap (λ (x : Looked). mapOutcome (λ h. c .before .before .args .c) (lookedOutcome x)) (c .enum-told .given .1))
+returns-2 c = sym (ap (λ (x : Looked). mapOutcome (λ h. c .before .before .before .before .args .c) (lookedOutcome x)) (c .before .before .answer2 .given .1))
 
 pub stop-spec : {M : Type 1} → statement M
-stop-spec = tie.close (tie.spec enum-known-answer enum-told returns returns-2)
+stop-spec = tie.close (tie.spec enum-known-answer enum-known-answer-2 siblings-of-requires returns returns-2)

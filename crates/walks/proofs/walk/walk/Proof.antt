@@ -1,60 +1,9 @@
 use borrow.Author.Needs.{needs}
-use mathlib.Core.Path.{sym, subst}
-use lib.ListN.{length}
-use denote.Ref.{now}
-use Rattle.blocks.specs.Tree.{recordLen}
-use Rattle.walks.specs.declared.walk.First.{First}
-use Rattle.walks.specs.declared.walk.First.the-variants.{Ready}
-use Rattle.walks.specs.declared.walk.Walked.{Walked}
-use Rattle.walks.specs.WalkCall.{walkOf, lent}
-use Rattle.walks.specs.WalkAnswer.{WalkIs}
-use Rattle.walks.specs.inner.WalkState.{FirstIs}
-use Rattle.walks.proofs.CallLaws.{untouched}
 use Rattle.walks.proofs.walk.walk.Statement.{statement}
 use Rattle.walks.proofs.walk.walk.Tie as tie
 
-ask-first-requires : tie.Need-ask-first-requires
-ask-first-requires c κs = search needs
-
-enum-known-first : tie.Need-enum-known-first
-enum-known-first c = search needs
-
-refused-requires : tie.Need-refused-requires
-refused-requires c κs = search needs
-
-enum-told : tie.Need-enum-told
-enum-told c = search needs
-
-limit-of-requires : tie.Need-limit-of-requires
-limit-of-requires c κs = search needs
-
--- what the first questions come to
-abbrev asked : (q : tie.After-ask-first) → First → Type 0
-asked q x =
-    let a = q .before .before .before .before .before .before .args in
-    FirstIs (a .g) (a .kind) (a .levels) (length (now (a .stack))) (length (now (a .scratch))) (length (now (a .blocks))) x
-
--- 1, 11 and 12 hold
-ready : (e : tie.After-enum-told) → asked (e .before .before) Ready
-ready e = subst (asked (e .before .before)) (e .enum-told .given .1) (e .before .before .ask-first .ensures)
-
-walk-tree-requires : tie.Need-walk-tree-requires
-walk-tree-requires c κs =
-    let l = c .before .before .before .before in
-    (ready (l .before) .begun, l .limit-of .ensures .1)
-
-returns : tie.Need-returns
-returns c =
-    let q = c .before .before .before .before in
-    let a = q .before .before .before .before .before .before .args in
-    let r = c .before .before .first .given .0 .0 in
-    let no = subst (asked q) (c .before .before .first .given .1) (q .ask-first .ensures) in
-    subst
-    (λ (x : Walked). WalkIs (recordLen (a .kind)) (a .levels)
-    (walkOf (a .g) (a .kind) (now (a .image)) (a .root .0) (a .levels) (lent (now (a .stack)) (now (a .scratch)) (now (a .blocks)) (now (a .records)))) x
-    (now (a .stack)) (now (a .stack)) (now (a .scratch)) (now (a .scratch)) (now (a .blocks)) (now (a .blocks)) (now (a .records)) (now (a .records)))
-    (sym (c .refused .ensures))
-    (untouched (recordLen (a .kind)) (a .levels) _ r (now (a .stack)) (now (a .scratch)) (now (a .blocks)) (now (a .records)) (no (length (now (a .records))) _))
+walk-linked-requires : tie.Need-walk-linked-requires
+walk-linked-requires c κs = search needs
 
 same-length : tie.Need-same-length
 same-length c = search needs
@@ -68,27 +17,10 @@ same-length-3 c = search needs
 same-length-4 : tie.Need-same-length-4
 same-length-4 c = search needs
 
-returns-2 : tie.Need-returns-2
-returns-2 c =
-    let w = c .before .before .before .before .before .before .before .before in
-    let l = w .before .before .before .before .before in
-    let a = l .before .before .before .before .before .before .before .before .before .args in
-    rw (ready (l .before) .holds (length (now (a .records))) _, ← l .limit-of .ensures .0)
-    (w .walk-tree .ensures)
+returns : tie.Need-returns
+returns c = c .before .before .before .before .before .before .before .before .walk-linked .ensures .walks
 
 pub walk-spec : {M : Type 1} → statement M
 walk-spec =
     tie.close
-    (tie.spec
-    ask-first-requires
-    enum-known-first
-    refused-requires
-    enum-told
-    limit-of-requires
-    walk-tree-requires
-    returns
-    same-length
-    same-length-2
-    same-length-3
-    same-length-4
-    returns-2)
+    (tie.spec walk-linked-requires same-length same-length-2 same-length-3 same-length-4 returns)

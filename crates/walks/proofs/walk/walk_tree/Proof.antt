@@ -16,8 +16,8 @@ use Rattle.walks.proofs.walk.walk_tree.Tie as tie
 descend-requires : tie.Need-descend-requires
 descend-requires c κs = search needs
 
-enum-known-end : tie.Need-enum-known-end
-enum-known-end c = search needs
+enum-known-walked : tie.Need-enum-known-walked
+enum-known-walked c = search needs
 
 enum-told : tie.Need-enum-told
 enum-told c = search needs
@@ -43,9 +43,12 @@ returns c =
     let e = f .before .before .before .before .before in
     let d = e .before .before .before .before .before .before .before .before in
     let a = d .before .before .before .before .before .before .before .before .before .args in
-    call-refused (recordLen (a .kind)) (a .levels) (walkIn (shapeOf (a .g) (a .kind)) (now (a .image)) (a .root) (a .levels) (a .limit) (length (now (a .blocks))) (length (now (a .out)))) (now (a .stack)) (d .descend .last .1 .1 .1 .1 .1 .1 .0) _ (now (a .scratch)) (d .descend .last .1 .1 .1 .1 .1 .1 .1 .0) _ (now (a .blocks)) _ (now (a .out)) (d .descend .last .1 .1 .1 .1 .1 .1 .1 .1 .0)
-    (d .descend .kept .1 .1 .1 .1 .1 .1 .0) (d .descend .kept .1 .1 .1 .1 .1 .1 .1 .0) (f .wipe .ensures .0) (f .wipe .ensures .1)
-    (d .descend .result) _ _ _ (e .enum-told .given .1) (d .descend .ensures .0) (d .descend .kept .1 .1 .1 .1 .1 .1 .1 .1 .0) (f .wipe .ensures .2) (f .wipe .ensures .3)
+    record {
+      walks = call-refused (recordLen (a .kind)) (a .levels) (walkIn (shapeOf (a .g) (a .kind)) (now (a .image)) (a .root) (a .levels) (a .limit) (length (now (a .blocks))) (length (now (a .out)))) (now (a .stack)) (d .descend .last .1 .1 .1 .1 .1 .1 .0) _ (now (a .scratch)) (d .descend .last .1 .1 .1 .1 .1 .1 .1 .0) _ (now (a .blocks)) _ (now (a .out)) (d .descend .last .1 .1 .1 .1 .1 .1 .1 .1 .0)
+          (d .descend .kept .1 .1 .1 .1 .1 .1 .0) (d .descend .kept .1 .1 .1 .1 .1 .1 .1 .0) (f .wipe .ensures .0) (f .wipe .ensures .1)
+          (d .descend .result .walked) _ _ _ (e .enum-told .given .1) (d .descend .ensures .0) (d .descend .kept .1 .1 .1 .1 .1 .1 .1 .1 .0) (f .wipe .ensures .2) (f .wipe .ensures .3);
+      says = d .descend .ensures .1 .1;
+    }
 
 finish-requires : tie.Need-finish-requires
 finish-requires c κs =
@@ -55,7 +58,7 @@ finish-requires c κs =
     let a = s .args in
     let w =
     visits-within (shapeOf (a .g) (a .kind)) (now (a .image)) (a .root) (a .levels) (a .limit) (length (now (a .blocks))) (length (now (a .out))) (recordLen (a .kind)) _ _ _
-    (sym (ap walkedReport (e .end .given .1)) ∙ d .descend .ensures .0) in
+    (sym (ap walkedReport (e .walked .given .1)) ∙ d .descend .ensures .0) in
     (omega (arith, w, d .descend .kept .1 .1 .1 .1 .1 .1 .1 .0, s .pre .0 .noting), w)
 
 same-length-5 : tie.Need-same-length-5
@@ -76,18 +79,21 @@ returns-2 c =
     let e = f .before .before .before .before .before in
     let d = e .before .before .before .before .before .before .before .before in
     let a = d .before .before .before .before .before .before .before .before .before .args in
-    call-read (recordLen (a .kind)) (a .levels) (walkIn (shapeOf (a .g) (a .kind)) (now (a .image)) (a .root) (a .levels) (a .limit) (length (now (a .blocks))) (length (now (a .out)))) (now (a .stack)) (d .descend .last .1 .1 .1 .1 .1 .1 .0) _ (now (a .scratch)) (d .descend .last .1 .1 .1 .1 .1 .1 .1 .0) _ (now (a .blocks)) _ (now (a .out)) (d .descend .last .1 .1 .1 .1 .1 .1 .1 .1 .0)
-    (d .descend .kept .1 .1 .1 .1 .1 .1 .0) (d .descend .kept .1 .1 .1 .1 .1 .1 .1 .0) (f .finish .ensures .1) (f .finish .ensures .2)
-    _ _ _ (sym (ap walkedReport (e .end .given .1)) ∙ d .descend .ensures .0)
-    (subst (λ (x : Walked). left x (walkIn (shapeOf (a .g) (a .kind)) (now (a .image)) (a .root) (a .levels) (a .limit) (length (now (a .blocks))) (length (now (a .out)))) (d .descend .last .1 .1 .1 .1 .1 .1 .1 .0) (now (a .out)) (d .descend .last .1 .1 .1 .1 .1 .1 .1 .1 .0)) (e .end .given .1) (d .descend .ensures .1))
-    (f .finish .ensures .0)
+    record {
+      walks = call-read (recordLen (a .kind)) (a .levels) (walkIn (shapeOf (a .g) (a .kind)) (now (a .image)) (a .root) (a .levels) (a .limit) (length (now (a .blocks))) (length (now (a .out)))) (now (a .stack)) (d .descend .last .1 .1 .1 .1 .1 .1 .0) _ (now (a .scratch)) (d .descend .last .1 .1 .1 .1 .1 .1 .1 .0) _ (now (a .blocks)) _ (now (a .out)) (d .descend .last .1 .1 .1 .1 .1 .1 .1 .1 .0)
+          (d .descend .kept .1 .1 .1 .1 .1 .1 .0) (d .descend .kept .1 .1 .1 .1 .1 .1 .1 .0) (f .finish .ensures .1) (f .finish .ensures .2)
+          (d .descend .result .walked) _ _ _ (e .walked .given .1) (sym (ap walkedReport (e .walked .given .1)) ∙ d .descend .ensures .0)
+          (subst (λ (x : Walked). left x (walkIn (shapeOf (a .g) (a .kind)) (now (a .image)) (a .root) (a .levels) (a .limit) (length (now (a .blocks))) (length (now (a .out)))) (d .descend .last .1 .1 .1 .1 .1 .1 .1 .0) (now (a .out)) (d .descend .last .1 .1 .1 .1 .1 .1 .1 .1 .0)) (e .walked .given .1) (d .descend .ensures .1 .0))
+          (f .finish .ensures .0);
+      says = d .descend .ensures .1 .1;
+    }
 
 pub walk-tree-spec : {M : Type 1} → statement M
 walk-tree-spec =
     tie.close
     (tie.spec
     descend-requires
-    enum-known-end
+    enum-known-walked
     enum-told
     wipe-requires
     same-length
