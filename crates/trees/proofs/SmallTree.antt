@@ -5,7 +5,8 @@ use native.Mathlib.Omega.{arith}
 use mathlib.Core.Path.{_≡_, refl, sym, ap, _∙_, subst}
 use mathlib.Core.Bool.{true, false}
 use mathlib.Core.List.{List, [], _∷_, _++_, append-nil}
-use lib.ListN.{length, drop, replicate, length-replicate}
+use lib.ListN.{length, replicate, length-replicate}
+use lib.Seq.{drop-nil}
 use Rattle.codec.specs.Bytes as bytes
 use Rattle.codec.specs.Bytes.{IsBytes}
 use Rattle.codec.specs.Question.{Outcome, done}
@@ -114,14 +115,10 @@ small-linked : saysLinked 512 image 2 (walkOf small kind.Refcount image 2 2 room
 unfolding counted bytes.beBytes records.fieldBytes records.bytesOf tree.headerLen plan.ceil plan.leaves plan.above plan.levelsOf
 small-linked = returned .linked
 
-nothing-after : (n : ℕ) → drop {A = ℕ} n [] ≡ []
-nothing-after zero = refl
-nothing-after (suc n) = refl
-
 -- bytes put into no list are the list
 put-in-none : (l : List ℕ) → bytes.withBytes [] 0 l ≡ l
 unfolding bytes.withBytes
-put-in-none l = ap (λ (x : List ℕ). l ++ x) (nothing-after (0 + length l)) ∙ append-nil l
+put-in-none l = ap (λ (x : List ℕ). l ++ x) (drop-nil (0 + length l)) ∙ append-nil l
 
 -- the blocks that the walk gave
 small-blocks : (t : Trace) → walkOf small kind.Refcount image 2 2 room ≡ done t → ending t ≡ finished → byLevel 2 (visits t) ≡ numbers

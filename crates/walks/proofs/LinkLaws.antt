@@ -5,7 +5,7 @@ use native.Mathlib.Numerals.{add-one}
 use native.Mathlib.Omega.{arith}
 use native.Mathlib.Decide.{decLt}
 use mathlib.Core.Path.{_≡_, refl, sym, ap, ap₂, _∙_, subst}
-use mathlib.Core.Bool.{Bool, true, false, _&&_, _||_}
+use mathlib.Core.Bool.{Bool, true, false, _&&_, _||_, and-true, and-false, and-assoc, and-comm}
 use mathlib.Core.List.{List, [], _∷_}
 use borrow.Author.Tests.{eq-eqb, ne-eqb}
 use lib.Dec.{eqb}
@@ -18,23 +18,9 @@ use Rattle.walks.specs.inner.Chains.{nothing, linkedFrom, levelsFrom, jo
 
 -- ---- tests
 
-assoc : (a b c : Bool) → ((a && b) && c) ≡ (a && (b && c))
-assoc true b c = refl
-assoc false b c = refl
-
 -- the middle one goes to the front
 front : (a b c : Bool) → (a && (b && c)) ≡ (b && (a && c))
-front true b c = refl
-front false true c = refl
-front false false c = refl
-
-pub all-true : (a : Bool) → (a && true) ≡ a
-all-true true = refl
-all-true false = refl
-
-pub one-false : (a : Bool) → (a && false) ≡ false
-one-false true = refl
-one-false false = refl
+front a b c = sym (and-assoc a b c) ∙ ap (λ (x : Bool). x && c) (and-comm a b) ∙ and-assoc b a c
 
 -- ---- one level
 
@@ -48,7 +34,7 @@ module _ (left right : ℕ → ℕ) where
       let y : Bool = eqb (left b) before in
       let w : Bool = eqb (right b) (next bs) && linked left right b bs in
       let n : eqb (right b) nothing ≡ false = ne-eqb (right b) nothing (λ e. omega arith) in
-      front x y w ∙ sym (assoc y x w) ∙ ap (λ (t : Bool). (y && x) && ((t || eqb (right b) (next bs)) && linked left right b bs)) (sym n)
+      front x y w ∙ sym (and-assoc y x w) ∙ ap (λ (t : Bool). (y && x) && ((t || eqb (right b) (next bs)) && linked left right b bs)) (sym n)
 
   -- ---- all levels
 
@@ -95,7 +81,7 @@ module _ (left right : ℕ → ℕ) where
         elim (decLt (v .level) n) [
           | yes q ↦
               ap₂ (λ (x y : Bool). x && y) (levels-here n q) (other n (λ e. omega arith))
-              ∙ assoc fits (levelsFrom left right before′ named′ n vs) (from′ n vs)
+              ∙ and-assoc fits (levelsFrom left right before′ named′ n vs) (from′ n vs)
           | no q ↦ (
               let e : v .level ≡ n = omega arith in
               let t : from n (v ∷ vs) ≡ (fits && from′ n vs) = subst (λ (x : ℕ). from x (v ∷ vs) ≡ (fits && from′ x vs)) e this in
@@ -117,7 +103,7 @@ module _ (left right : ℕ → ℕ) where
   levels-end : (before named : List ℕ) (n : ℕ) → levelsFrom left right before named n [] ≡ allEnd named n
   unfolding levelsFrom allEnd linked atLevel
   levels-end before named zero = refl
-  levels-end before named (suc n) = ap₂ (λ (x y : Bool). x && y) (levels-end before named n) (all-true (ends (getD named n 0)))
+  levels-end before named (suc n) = ap₂ (λ (x y : Bool). x && y) (levels-end before named n) (and-true (ends (getD named n 0)))
 
 -- one level more, on the way to the end
 module _ (named : List ℕ) (l : ℕ) (first : Bool) where
@@ -126,10 +112,10 @@ module _ (named : List ℕ) (l : ℕ) (first : Bool) where
   end-more = rw (add-one l)
 
   pub end-yes : (so : Bool) → so ≡ (first && allEnd named l) → ends (getD named l 0) ≡ true → so ≡ (first && allEnd named (l + 1))
-  end-yes so e t = e ∙ ap (λ (x : Bool). first && x) (sym (end-more ∙ ap (λ (x : Bool). allEnd named l && x) t ∙ all-true (allEnd named l)))
+  end-yes so e t = e ∙ ap (λ (x : Bool). first && x) (sym (end-more ∙ ap (λ (x : Bool). allEnd named l && x) t ∙ and-true (allEnd named l)))
 
   pub end-no : ends (getD named l 0) ≡ false → false ≡ (first && allEnd named (l + 1))
-  end-no t = sym (ap (λ (x : Bool). first && x) (end-more ∙ ap (λ (x : Bool). allEnd named l && x) t ∙ one-false (allEnd named l)) ∙ one-false first)
+  end-no t = sym (ap (λ (x : Bool). first && x) (end-more ∙ ap (λ (x : Bool). allEnd named l && x) t ∙ and-false (allEnd named l)) ∙ and-false first)
 
 module _ (left right : ℕ → ℕ) where
   -- ---- what a walk keeps: the links of all visits are those so far, and those of the visits to come after what is held
@@ -158,7 +144,7 @@ module _ (left right : ℕ → ℕ) where
         links =
             c .links
             ∙ ap (λ (x : Bool). so && x) (levels-here left right before named v ws (c .blocks) (c .names) (omega arith) small levels lt)
-            ∙ sym (assoc so fit (levelsFrom left right (set before (v .level) (v .block)) (set named (v .level) (right (v .block))) levels ws))
+            ∙ sym (and-assoc so fit (levelsFrom left right (set before (v .level) (v .block)) (set named (v .level) (right (v .block))) levels ws))
             ∙ ap₂ (λ (x : Bool) (y : List ℕ). x && levelsFrom left right y (set named (v .level) (right (v .block))) levels ws) (sym t) (sym b)
             ∙ ap (λ (y : List ℕ). so′ && levelsFrom left right before′ y levels ws) (sym m);
       }

@@ -1,11 +1,10 @@
 -- `OneLinkWrong`: the walk does not go by the siblings; and two linked images of one walk name the same siblings.
 -- Assumes nothing.
 use Prim.Native.Nat.{ℕ, zero, suc, _+_, _-_, _*_, _^_, _≤_, _<_, max}
-use native.Mathlib.Nat.{mul-le-mul, add-mul, one-mul}
 use native.Mathlib.Omega.{arith}
 use native.Mathlib.Decide.{decLt}
 use mathlib.Core.Path.{_≡_, refl, sym, ap, _∙_, subst}
-use mathlib.Core.Bool.{Bool, true, false, cond, _&&_}
+use mathlib.Core.Bool.{Bool, true, false, cond, _&&_, and-eq-true-iff}
 use mathlib.Core.Logic.{_⊎_, ⊎-elim, inl, inr}
 use mathlib.Core.List.{List, [], _∷_, _++_}
 use borrow.Author.Tests.{eqb-true}
@@ -14,6 +13,7 @@ use lib.ListN.{length, take, drop}
 use Rattle.codec.specs.Bytes.{IsBytes, bytesAt, beOf}
 use Rattle.codec.specs.Question.{none, Outcome, done, refused, answer, mapOutcome}
 use Rattle.codec.proofs.Meaning.{done-means}
+use Rattle.codec.proofs.RecordLists.{inside as inside-of}
 use Rattle.codec.proofs.Parts.{bytesAt-same, bytesAt-elsewhere, length-withBytes}
 use Rattle.codec.proofs.Overwrites.{isBytes-bytesAt}
 use Rattle.blocks.specs.declared.geometry.Geometry.{Geometry}
@@ -122,10 +122,6 @@ visit-of look b l (v ∷ vs) g h = go (eqb (v .level) l) h (visit-of look b l vs
 
 -- ---- two linked images of one walk
 
-both : (a b : Bool) → (a && b) ≡ true → (a ≡ true) × (b ≡ true)
-both true b h = (refl, h)
-both false b h = let z : _≡_ {A = ℕ} 0 1 = cc in absurd (omega arith)
-
 module _ (left right left′ right′ : ℕ → ℕ) where
   -- the siblings of each block are the same
   linked-same : (before : ℕ) (bs : List ℕ) → linked left right before bs ≡ true → linked left′ right′ before bs ≡ true
@@ -133,10 +129,10 @@ module _ (left right left′ right′ : ℕ → ℕ) where
   unfolding linked
   linked-same before [] h k b a = let z : _≡_ {A = ℕ} 0 1 = cc in absurd (omega arith)
   linked-same before (x ∷ bs) h k b a =
-      let h0 = both (eqb (left x) before) (eqb (right x) (next bs) && linked left right x bs) h in
-      let h1 = both (eqb (right x) (next bs)) (linked left right x bs) (h0 .1) in
-      let k0 = both (eqb (left′ x) before) (eqb (right′ x) (next bs) && linked left′ right′ x bs) k in
-      let k1 = both (eqb (right′ x) (next bs)) (linked left′ right′ x bs) (k0 .1) in
+      let h0 = and-eq-true-iff (eqb (left x) before) (eqb (right x) (next bs) && linked left right x bs) .0 h in
+      let h1 = and-eq-true-iff (eqb (right x) (next bs)) (linked left right x bs) .0 (h0 .1) in
+      let k0 = and-eq-true-iff (eqb (left′ x) before) (eqb (right′ x) (next bs) && linked left′ right′ x bs) .0 k in
+      let k1 = and-eq-true-iff (eqb (right′ x) (next bs)) (linked left′ right′ x bs) .0 (k0 .1) in
       let l : left x ≡ left′ x = eqb-true _ _ (h0 .0) ∙ sym (eqb-true _ _ (k0 .0)) in
       let r : right x ≡ right′ x = eqb-true _ _ (h1 .0) ∙ sym (eqb-true _ _ (k1 .0)) in
       among-cons b x bs ((left b ≡ left′ b) × (right b ≡ right′ b))
@@ -147,7 +143,7 @@ level-linked : (left right : ℕ → ℕ) (n l : ℕ) (vs : List Visit) → l < 
 unfolding levelsLinked
 level-linked left right zero l vs h e = absurd (omega arith)
 level-linked left right (suc n) l vs h e =
-    let q = both (levelsLinked left right n vs) (linked left right nullAgBlock (atLevel n vs)) e in
+    let q = and-eq-true-iff (levelsLinked left right n vs) (linked left right nullAgBlock (atLevel n vs)) .0 e in
     elim (decLt l n) [
       | yes k ↦ level-linked left right n l vs k (q .0)
       | no k ↦ (let s : l ≡ n = omega arith in subst (λ (x : ℕ). linked left right nullAgBlock (atLevel x vs) ≡ true) (sym s) (q .1))
@@ -174,12 +170,6 @@ under-same s part part′ zero n h = ap (λ (l : List ℕ). good [] (take (n * s
 under-same s part part′ (suc level) n h = ap (λ (l : List Visit). good l []) (pointers-same part part′ level (firstPointer s) n (λ k q. h k (omega arith)))
 
 -- ---- the image with one block named anew
-
-mul-step : (m n size : ℕ) → m < n → m * size + size ≤ n * size
-mul-step m n size h =
-    let e : (m + 1) * size ≡ m * size + size = add-mul m 1 size ∙ ap (λ (x : ℕ). m * size + x) (one-mul size) in
-    let k : (m + 1) * size ≤ n * size = mul-le-mul (omega arith) (omega arith) in
-    omega arith
 
 -- a look is the same where the block check and what is under the block are
 look-same : (s : Shape) (im im′ : List ℕ) (v : Visit) → length im′ ≡ length im
@@ -237,7 +227,7 @@ module _ (g : Geometry) (kind : TreeKind) (image : List ℕ) (bytes : IsBytes im
   there : (n : ℕ) → (n < b) ⊎ (b < n) → blockIn size image′ n ≡ blockIn size image n
   there n o =
       bytesAt-elsewhere image (b * size) other fits (n * size) size
-      (⊎-elim (λ k. inl (mul-step n b size k)) (λ k. inr (rw other-long (mul-step b n size k))) o)
+      (⊎-elim (λ k. inl (inside-of size n b k)) (λ k. inr (rw other-long (inside-of size b n k))) o)
 
   look-here : (l : ℕ) → lookIn sh image′ (visitOf b l) ≡ lookIn sh image (visitOf b l)
   look-here l =

@@ -5,7 +5,7 @@ use native.Mathlib.Nat.{add-zero}
 use native.Mathlib.Omega.{arith}
 use mathlib.Core.Path.{_≡_, refl, sym, ap, ap₂, _∙_}
 use mathlib.Core.List.{List, [], _∷_, _++_, append-assoc, append-nil}
-use mathlib.Core.Bool.{Bool, true, false, cond, _&&_}
+use mathlib.Core.Bool.{Bool, true, false, cond, _&&_, and-false}
 use lib.ListN.{length, take, drop, length-append, take-append-drop}
 use lib.Seq.{length-take-le, drop-drop}
 use lib.Dec.{ltb, leb}
@@ -21,10 +21,6 @@ use Rattle.walks.specs.WalkCall.{Counts, Report, reportOf, ifFinished}
 use Rattle.walks.proofs.LevelLaws.{visit-place, seen-append}
 
 -- ---- one visit's step
-
-and-false : (x : Bool) → (x && false) ≡ false
-and-false true = refl
-and-false false = refl
 
 module _ (places room : ℕ) (c : Count) (below : List Visit) (bytes : List ℕ) where
   pub step-full : places ≤ c .visits → stepOf places room c (good below bytes) ≡ refused 15 none

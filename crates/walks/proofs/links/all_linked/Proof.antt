@@ -5,11 +5,11 @@ use borrow.Author.Tests.{not-true, not-false}
 use native.Mathlib.Omega.{arith}
 use Prim.Native.Nat.{ℕ, _-_, _≤_}
 use mathlib.Core.Path.{_≡_, sym, ap, _∙_}
-use mathlib.Core.Bool.{_&&_}
+use mathlib.Core.Bool.{_&&_, and-true}
 use mathlib.Core.Logic.{⊎-elim}
 use denote.Ref.{now}
 use Rattle.walks.specs.inner.Chains.{allEnd}
-use Rattle.walks.proofs.LinkLaws.{all-true, end-yes, end-no}
+use Rattle.walks.proofs.LinkLaws.{end-yes, end-no}
 use Rattle.walks.proofs.links.all_linked.Statement.{statement}
 use Rattle.walks.proofs.links.all_linked.Tie as tie
 
@@ -21,7 +21,7 @@ abbrev μ-loop : tie.MeasureT-loop
 
 loop-holds : tie.Need-loop-holds Inv-loop μ-loop
 unfolding allEnd
-loop-holds c = (omega arith, sym (all-true (c .before .args .linked)))
+loop-holds c = (omega arith, sym (and-true (c .before .args .linked)))
 
 mul-may-end : tie.Need-mul-may-end Inv-loop μ-loop
 mul-may-end c = search needs

@@ -3,9 +3,8 @@
 use borrow.Author.Needs.{needs}
 use borrow.Author.Tests.{not-true, not-false}
 use mathlib.Core.Path.{refl, sym, ap, _∙_}
-use mathlib.Core.Bool.{Bool, _&&_}
+use mathlib.Core.Bool.{Bool, _&&_, and-true, and-false}
 use mathlib.Core.Logic.{⊎-elim}
-use Rattle.walks.proofs.LinkLaws.{all-true, one-false}
 use Rattle.walks.proofs.links.follow.Statement.{statement}
 use Rattle.walks.proofs.links.follow.Tie as tie
 
@@ -55,8 +54,8 @@ returns c =
       small = c .struct-known .given .1 .0 .fits;
       follows =
           ⊎-elim
-          (λ w. w .1 ∙ sym (ap (λ (x : Bool). a .linked && x) (sym (f .follows .ensures) ∙ not-true (f .follows .result) (w .0 .taken)) ∙ one-false (a .linked)))
-          (λ w. w .1 ∙ sym (ap (λ (x : Bool). a .linked && x) (sym (f .follows .ensures) ∙ not-false (f .follows .result) (w .0 .left)) ∙ all-true (a .linked)))
+          (λ w. w .1 ∙ sym (ap (λ (x : Bool). a .linked && x) (sym (f .follows .ensures) ∙ not-true (f .follows .result) (w .0 .taken)) ∙ and-false (a .linked)))
+          (λ w. w .1 ∙ sym (ap (λ (x : Bool). a .linked && x) (sym (f .follows .ensures) ∙ not-false (f .follows .result) (w .0 .left)) ∙ and-true (a .linked)))
           (c .before .if1 .came);
     }
 
