@@ -583,6 +583,76 @@ pub fn walk_linked(
         .map(|(walked, linked)| (walked, linked == 1))
 }
 
+/// A tree that was read.
+#[derive(Debug, Clone, PartialEq, Eq)]
+pub struct Tree {
+    /// Its blocks by level, leaves first.
+    pub blocks: Vec<u32>,
+    /// The bytes of its records.
+    pub records: Vec<u8>,
+    /// Whether every level is linked.
+    pub linked: bool,
+}
+
+/// The places that a walk's stack has to have: twice the levels, times the
+/// entries that a node has room for. More than nine levels are refused.
+fn stack_places(g: &Geometry, kind: Kind, levels: u32) -> usize {
+    let header = if g.version == 5 { 56 } else { 16 };
+    let entry = match kind {
+        Kind::Rmap => 44,
+        Kind::Refcount => 8,
+    };
+    2 * levels.min(9) as usize * ((g.blocksize as usize).saturating_sub(header) / entry)
+}
+
+/// [`walk_linked`] over vectors of its own, with room for a tree of `most`
+/// blocks; the group's header has that number for each of its trees
+/// (`agf_rmap_blocks`, `agf_refcount_blocks`). A tree of more is refused by 15.
+///
+/// ```
+/// use kf::{build, read_tree, Geometry, Kind, Rmap};
+/// let g = Geometry { version: 5, blocksize: 512, agblocks: 9, agno: 0, meta_uuid: [7; 16] };
+/// let list: Vec<u8> = (0..50)
+///     .flat_map(|i| Rmap { startblock: 8 * i, blockcount: 2, owner: 7, offset: 0 }.bytes())
+///     .collect();
+/// // Three leaves and the root, one after another in an image of four blocks.
+/// let numbers = [0, 1, 2, 3];
+/// let mut image = [0; 4 * 512];
+/// build(&g, Kind::Rmap, &list, &numbers, &mut image).unwrap();
+/// let tree = read_tree(&g, Kind::Rmap, &image, 3, 2, 4).unwrap();
+/// assert_eq!((tree.blocks, tree.records), (numbers.to_vec(), list));
+/// assert!(tree.linked);
+/// // The same with room for three blocks.
+/// let refused = read_tree(&g, Kind::Rmap, &image, 3, 2, 3).unwrap_err();
+/// assert_eq!((refused.refusal.number, refused.visits), (15, 4));
+/// ```
+pub fn read_tree(
+    g: &Geometry,
+    kind: Kind,
+    image: &[u8],
+    root: u32,
+    levels: u32,
+    most: usize,
+) -> Result<Tree, WalkRefusal> {
+    let mut stack = vec![0; stack_places(g, kind, levels)];
+    let (mut scratch, mut blocks) = (vec![0; most], vec![0; most]);
+    let mut records = vec![0; most.saturating_mul(g.blocksize as usize)];
+    let lent = Lent {
+        stack: &mut stack,
+        scratch: &mut scratch,
+        blocks: &mut blocks,
+        records: &mut records,
+    };
+    let (walked, linked) = walk_linked(g, kind, image, root, levels, lent)?;
+    blocks.truncate(walked.visits);
+    records.truncate(walked.bytes);
+    Ok(Tree {
+        blocks,
+        records,
+        linked,
+    })
+}
+
 /// A reverse-map record, or an extent taken or given up.
 #[derive(Debug, Clone, Copy, PartialEq, Eq)]
 pub struct Rmap {
