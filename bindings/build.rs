@@ -3,20 +3,35 @@
 
 use std::env;
 use std::path::PathBuf;
+use std::process::exit;
 
 fn main() {
     println!("cargo:rerun-if-env-changed=KF_LIB_DIR");
     let here = PathBuf::from(env::var_os("CARGO_MANIFEST_DIR").expect("cargo sets it"));
     let dir = match env::var_os("KF_LIB_DIR") {
-        Some(d) => PathBuf::from(d),
+        Some(d) => here.join(d),
         None => here.join("../target/staticlib"),
     };
     println!("cargo:rustc-link-search=native={}", dir.display());
+    let mut missing = false;
     for name in ["tree_calls", "list_calls"] {
-        println!(
-            "cargo:rerun-if-changed={}",
-            dir.join(format!("lib{name}.a")).display()
-        );
+        let archive = dir.join(format!("lib{name}.a"));
+        println!("cargo:rerun-if-changed={}", archive.display());
         println!("cargo:rustc-link-lib=static:-bundle={name}");
+        if !archive.is_file() {
+            eprintln!("The static library {} is not there.", archive.display());
+            missing = true;
+        }
+    }
+    if missing {
+        eprintln!();
+        eprintln!("This crate calls a library that the Rattle kit proves and compiles. In the");
+        eprintln!("repository's folder, the one above `bindings`, run");
+        eprintln!();
+        eprintln!("    rt staticlib tree_calls && rt staticlib list_calls");
+        eprintln!();
+        eprintln!("which writes both archives to target/staticlib. Where they are in another");
+        eprintln!("folder, let the environment variable KF_LIB_DIR name it.");
+        exit(1);
     }
 }

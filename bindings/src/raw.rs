@@ -1,15 +1,92 @@
-//! The functions of the static library as C sees them; `kf.h` says the same,
-//! and `docs/QUESTIONS.md` of the repository what their answers mean.
+//! The functions of the two archives as C sees them. `kf.h` says the same;
+//! `docs/INTERFACE.md` of the repository has the figures of each call, and
+//! `docs/QUESTIONS.md` what their answers mean.
 //!
-//! A slice passes as a pointer and a length. `said` is written whole; the
-//! `levels` of a plan are written whole, or by a refusal not at all.
+//! A slice passes as a pointer and the number of its elements. Every call but
+//! the two of CRC32C answers 0 where it was done, else the number of the first
+//! question that failed. `said: *mut [u64; 4]` is written whole, refused or
+//! not. `levels: *mut [u64; 9]` of a plan is written whole, or by a refusal not
+//! at all. `kind` is [`KF_KIND_RMAP`] or [`KF_KIND_REFCOUNT`]; any other number
+//! is taken for the second.
+//!
+//! # Safety
+//!
+//! Every function here is unsafe for one reason: it takes pointers, and cannot
+//! look where they point. Numbers, and the bytes that are read, may be any.
+//!
+//! ## Duties of a caller
+//!
+//! - No pointer is null, and each is aligned for its element: at 4 for `u32`,
+//!   at 8 for `u64` and for the arrays.
+//! - It is valid for as many elements as its length says, or as the array has,
+//!   until the call returns: for reads where it is `*const`, for reads and
+//!   writes where it is `*mut`. The bytes of a slice are `isize::MAX` at most.
+//! - Until the call returns nobody else writes what the call reads, nor reads
+//!   or writes what it writes.
+//! - What a call writes overlaps nothing else that it is given: no other slice,
+//!   nor `said`, nor `levels`; and these two do not overlap each other. Slices
+//!   that are only read may overlap.
+//! - An empty slice is a length of 0 with a pointer that is neither null nor
+//!   misaligned, as that of an empty Rust slice is; it need not point to an
+//!   element.
+//! - The stack has room for the call: 8 KiB are enough, the red zone of System
+//!   V, which calls use, included. (Read off the archives, not proved.)
+//!
+//! # What is proved
+//!
+//! Each function of the archives is, on every input, where the duties are kept:
+//! it returns, reads and writes nothing but what it is given, and answers and
+//! writes what its contract says. This module is not: it is trusted to declare
+//! the functions as the archives have them. `tests/interface.rs` holds its
+//! names and parameters against the Rattle source and `kf.h`. That `rustc` and
+//! the Rattle back end mean the same by `extern "C"` is trusted too.
+
+/// The kind of the reverse map's tree.
+pub const KF_KIND_RMAP: u32 = 0;
+/// The kind of the shared counts' tree.
+pub const KF_KIND_REFCOUNT: u32 = 1;
 
 #[allow(clippy::too_many_arguments)]
 extern "C" {
+    /// CRC32C of the bytes, four at a step. It answers the CRC.
+    ///
+    /// # Safety
+    ///
+    /// The [duties of a caller](self#duties-of-a-caller).
+    /// Reads `bytes`; writes nothing.
     pub fn kf_crc32c(bytes: *const u8, bytes_len: usize) -> u32;
+
+    /// CRC32C of the bytes, one at a step: the same as [`kf_crc32c`] on every
+    /// input.
+    ///
+    /// # Safety
+    ///
+    /// The [duties of a caller](self#duties-of-a-caller).
+    /// Reads `bytes`; writes nothing.
     pub fn kf_crc32c_singly(bytes: *const u8, bytes_len: usize) -> u32;
+
+    /// Is it an accepted reverse map?
+    ///
+    /// # Safety
+    ///
+    /// The [duties of a caller](self#duties-of-a-caller).
+    /// Reads `list`; writes nothing.
     pub fn kf_check_rmaps(list: *const u8, list_len: usize) -> u32;
+
+    /// Are they accepted shared counts?
+    ///
+    /// # Safety
+    ///
+    /// The [duties of a caller](self#duties-of-a-caller).
+    /// Reads `list`; writes nothing.
     pub fn kf_check_refcounts(list: *const u8, list_len: usize) -> u32;
+
+    /// Is it block `block` of the group's tree, at level `level`?
+    ///
+    /// # Safety
+    ///
+    /// The [duties of a caller](self#duties-of-a-caller).
+    /// Reads `bytes`; writes `said`.
     pub fn kf_check_block(
         version: u16,
         blocksize: u32,
@@ -24,6 +101,13 @@ extern "C" {
         bytes_len: usize,
         said: *mut [u64; 4],
     ) -> u32;
+
+    /// How many blocks each level of a tree of so many records has.
+    ///
+    /// # Safety
+    ///
+    /// The [duties of a caller](self#duties-of-a-caller).
+    /// Reads no slice; writes `said`, and `levels` whole unless it refuses.
     pub fn kf_plan(
         version: u16,
         blocksize: u32,
@@ -36,6 +120,13 @@ extern "C" {
         levels: *mut [u64; 9],
         said: *mut [u64; 4],
     ) -> u32;
+
+    /// Lays a list out as the blocks of a fresh tree.
+    ///
+    /// # Safety
+    ///
+    /// The [duties of a caller](self#duties-of-a-caller).
+    /// Reads `list` and `numbers`; writes `out` and `said`.
     pub fn kf_build(
         version: u16,
         blocksize: u32,
@@ -52,6 +143,13 @@ extern "C" {
         out_len: usize,
         said: *mut [u64; 4],
     ) -> u32;
+
+    /// Reads a tree of so many levels from its root.
+    ///
+    /// # Safety
+    ///
+    /// The [duties of a caller](self#duties-of-a-caller).
+    /// Reads `image`; writes `stack`, `scratch`, `blocks`, `records` and `said`.
     pub fn kf_walk(
         version: u16,
         blocksize: u32,
@@ -74,6 +172,13 @@ extern "C" {
         records_len: usize,
         said: *mut [u64; 4],
     ) -> u32;
+
+    /// The walk of [`kf_walk`], and whether every level of the tree is linked.
+    ///
+    /// # Safety
+    ///
+    /// The [duties of a caller](self#duties-of-a-caller).
+    /// Reads `image`; writes `stack`, `scratch`, `blocks`, `records` and `said`.
     pub fn kf_walk_linked(
         version: u16,
         blocksize: u32,
@@ -96,6 +201,14 @@ extern "C" {
         records_len: usize,
         said: *mut [u64; 4],
     ) -> u32;
+
+    /// A first take: puts an extent of which no block is held into the reverse
+    /// map.
+    ///
+    /// # Safety
+    ///
+    /// The [duties of a caller](self#duties-of-a-caller).
+    /// Reads `old`; writes `new_map` and `said`.
     pub fn kf_insert(
         old: *const u8,
         old_len: usize,
@@ -103,11 +216,18 @@ extern "C" {
         blockcount: u32,
         owner: u64,
         offset: u64,
-        new: *mut u8,
-        new_len: usize,
+        new_map: *mut u8,
+        new_map_len: usize,
         said: *mut [u64; 4],
     ) -> u32;
-    /// Leaves the counts alone; `kf_take_held` is the call for held blocks.
+
+    /// Puts an extent whose blocks others may hold into the reverse map. Leaves
+    /// the counts alone; [`kf_take_held`] is the call for held blocks.
+    ///
+    /// # Safety
+    ///
+    /// The [duties of a caller](self#duties-of-a-caller).
+    /// Reads `old`; writes `new_map` and `said`.
     pub fn kf_insert_shared(
         old: *const u8,
         old_len: usize,
@@ -115,10 +235,18 @@ extern "C" {
         blockcount: u32,
         owner: u64,
         offset: u64,
-        new: *mut u8,
-        new_len: usize,
+        new_map: *mut u8,
+        new_map_len: usize,
         said: *mut [u64; 4],
     ) -> u32;
+
+    /// Takes an extent out of the reverse map. Leaves the counts alone;
+    /// [`kf_let_go`] is the whole letting go.
+    ///
+    /// # Safety
+    ///
+    /// The [duties of a caller](self#duties-of-a-caller).
+    /// Reads `old`; writes `new_map` and `said`.
     pub fn kf_remove(
         old: *const u8,
         old_len: usize,
@@ -126,21 +254,38 @@ extern "C" {
         blockcount: u32,
         owner: u64,
         offset: u64,
-        new: *mut u8,
-        new_len: usize,
+        new_map: *mut u8,
+        new_map_len: usize,
         said: *mut [u64; 4],
     ) -> u32;
+
+    /// Lowers the counts over an extent, and tells its blocks that are free
+    /// again.
+    ///
+    /// # Safety
+    ///
+    /// The [duties of a caller](self#duties-of-a-caller).
+    /// Reads `counts`; writes `new_counts`, `free_extents` and `said`.
     pub fn kf_release(
         counts: *const u8,
         counts_len: usize,
         startblock: u32,
         blockcount: u32,
-        new: *mut u8,
-        new_len: usize,
-        free: *mut u8,
-        free_len: usize,
+        new_counts: *mut u8,
+        new_counts_len: usize,
+        free_extents: *mut u8,
+        free_extents_len: usize,
         said: *mut [u64; 4],
     ) -> u32;
+
+    /// The whole letting go: an extent leaves the reverse map, and the counts
+    /// over it are lowered.
+    ///
+    /// # Safety
+    ///
+    /// The [duties of a caller](self#duties-of-a-caller).
+    /// Reads `map` and `counts`; writes `new_map`, `new_counts`, `free_extents`
+    /// and `said`.
     pub fn kf_let_go(
         map: *const u8,
         map_len: usize,
@@ -154,10 +299,18 @@ extern "C" {
         new_map_len: usize,
         new_counts: *mut u8,
         new_counts_len: usize,
-        free: *mut u8,
-        free_len: usize,
+        free_extents: *mut u8,
+        free_extents_len: usize,
         said: *mut [u64; 4],
     ) -> u32;
+
+    /// Takes an extent whose blocks are all held: it goes into the reverse map,
+    /// and the counts over it are raised.
+    ///
+    /// # Safety
+    ///
+    /// The [duties of a caller](self#duties-of-a-caller).
+    /// Reads `map` and `counts`; writes `new_map`, `new_counts` and `said`.
     pub fn kf_take_held(
         map: *const u8,
         map_len: usize,

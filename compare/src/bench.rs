@@ -3,6 +3,7 @@
 
 use crate::library::{self, Edit, Walk};
 use crate::links;
+use crate::vectors as layer;
 use oracle::refusal::Outcome;
 use oracle::rmap::Rmap;
 use oracle::sample::{self, Image};
@@ -491,6 +492,112 @@ fn lets_go(rows: &mut Vec<Row>) {
     }
 }
 
+/// The shortest of several runs of both, by turns.
+fn by_turns(
+    mut lent: impl FnMut() -> Duration,
+    mut vectors: impl FnMut() -> Duration,
+) -> [Duration; 2] {
+    let mut least = [Duration::MAX; 2];
+    for _ in 0..TIMES {
+        least = [least[0].min(lent()), least[1].min(vectors())];
+    }
+    least
+}
+
+fn once<A>(f: impl FnMut() -> A) -> Duration {
+    best(1, f).0
+}
+
+fn print_vectors(what: &str, size: &str, [lent, vectors]: [Duration; 2]) {
+    let (a, b) = (ms(lent), ms(vectors));
+    println!("| {what} | {size} | {a:.3} | {b:.3} | {:.2} |", b / a);
+}
+
+/// The layer over vectors beside the same calls of the library on memory that
+/// is lent again and again.
+fn vectors() {
+    println!("| call | size | lent, ms | vectors, ms | ratio |");
+    println!("|---|---|---:|---:|---:|");
+    for (n, size) in [(1_000_000, 4096), (1_000_000, 512)] {
+        tree_vectors(n, size);
+    }
+    for n in [100_000, 1_000_000] {
+        edit_vectors(n);
+    }
+}
+
+fn tree_vectors(n: usize, size: usize) {
+    let s = tree_image(n, size);
+    let (g, im, kind) = (layer::geometry(&s.g), &s.image, kf::Kind::Rmap);
+    let records = format!("{n} records at {}", apart(size));
+
+    let root = kf::Root::new(im.root, im.levels, im.blocks.len());
+    let mut lent = Lent::of(&s);
+    let times = by_turns(
+        || once(|| s.walk_by(Walk::Linked, &mut lent)),
+        || once(|| kf::Tree::walk(&g, kind, &im.bytes, root).is_ok()),
+    );
+    let tree = kf::Tree::walk(&g, kind, &im.bytes, root).expect("a tree");
+    assert!(tree.records == lent.records && tree.blocks == lent.blocks && tree.linked);
+    print_vectors("`walk_linked`, `Tree::walk`", &records, times);
+
+    let group = kf::Group::new(s.list.clone(), vec![]);
+    let mut out = vec![0; im.bytes.len()];
+    let times = by_turns(
+        || once(|| s.build_library(&mut out)),
+        || once(|| group.build(&g, kind, &im.blocks).is_ok()),
+    );
+    assert!(group.build(&g, kind, &im.blocks).expect("blocks") == out);
+    print_vectors("`build`, `Group::build`", &records, times);
+}
+
+fn edit_vectors(n: usize) {
+    let list = sample::rmaps(n);
+    let map = &bare::rmap_bytes(&list);
+    let counts = &bare::refcount_bytes(&sample::counts(n));
+    let size = format!("{n} and {n} records");
+    let x = list[n / 2 + 3];
+    let other = Rmap { owner: 7, ..x };
+    // One group, put back before each call: its vectors are there already, as is
+    // what the other side is lent.
+    let mut g = kf::Group::default();
+    let back = |g: &mut kf::Group| {
+        g.map.clone_from(map);
+        g.counts.clone_from(counts);
+    };
+    let mut new = [
+        vec![0; map.len() + 24],
+        vec![0; counts.len() + 120],
+        vec![0; 800],
+    ];
+
+    let times = by_turns(
+        || {
+            let [a, b, _] = &mut new;
+            once(|| library::take_held(map, counts, other, a, b).number)
+        },
+        || {
+            back(&mut g);
+            once(|| g.take_held(&layer::extent(other)).is_ok())
+        },
+    );
+    assert!(g.map == new[0][..g.map.len()] && g.counts == new[1][..g.counts.len()]);
+    print_vectors("`take_held`, `Group::take_held`", &size, times);
+
+    let times = by_turns(
+        || {
+            let [a, b, c] = &mut new;
+            once(|| library::let_go(map, counts, x, a, b, c).number)
+        },
+        || {
+            back(&mut g);
+            once(|| g.let_go(&layer::extent(x)).is_ok())
+        },
+    );
+    assert!(g.map == new[0][..g.map.len()] && g.counts == new[1][..g.counts.len()]);
+    print_vectors("`let_go`, `Group::let_go`", &size, times);
+}
+
 /// All of it, or the parts named.
 pub fn bench(words: &[String]) {
     let parts: [(&str, fn(&mut Vec<Row>)); 5] = [
@@ -502,7 +609,8 @@ pub fn bench(words: &[String]) {
     ];
     for w in words {
         assert!(
-            w == "forms" || w == "linked" || parts.iter().any(|(n, _)| n == w),
+            ["forms", "linked", "vectors"].contains(&w.as_str())
+                || parts.iter().any(|(n, _)| n == w),
             "no part {w}"
         );
     }
@@ -526,5 +634,8 @@ pub fn bench(words: &[String]) {
     }
     if wanted("linked") {
         linked();
+    }
+    if wanted("vectors") {
+        vectors();
     }
 }

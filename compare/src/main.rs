@@ -19,6 +19,7 @@ mod real;
 mod sample;
 mod tally;
 mod trees;
+mod vectors;
 
 use oracle::sample::Random;
 use tally::Tally;
@@ -31,7 +32,7 @@ struct Part {
 }
 
 /// In this order: a part's seed goes by its place.
-const PARTS: [Part; 11] = [
+const PARTS: [Part; 12] = [
     Part {
         name: "crc",
         tries:
@@ -88,6 +89,11 @@ const PARTS: [Part; 11] = [
         tries:
             "trees built, stored, then walked with each link in turn changed, and in another order",
         run: links::links,
+    },
+    Part {
+        name: "vectors",
+        tries: "the layer over vectors: both lists edited, trees built and walked",
+        run: vectors::vectors,
     },
 ];
 

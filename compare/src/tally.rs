@@ -48,13 +48,13 @@ impl Tally {
                 .collect();
             let total: u64 = mine.iter().map(|m| m.1).sum();
             let by: Vec<String> = mine.iter().map(|(k, n)| format!("{k}: {n}")).collect();
-            println!("{call:<15} {total:>9}   {}", by.join(", "));
+            println!("{call:<16} {total:>9}   {}", by.join(", "));
         }
         for (what, by) in &self.noted {
             let by: Vec<String> = by.iter().map(|(k, n)| format!("{k} {n}")).collect();
             println!("{what}: {}", by.join(", "));
         }
-        println!("{:<15} {:>9}   no difference", "all", self.calls());
+        println!("{:<16} {:>9}   no difference", "all", self.calls());
     }
 }
 

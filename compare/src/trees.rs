@@ -186,39 +186,46 @@ fn planned(g: &Geometry, tree: Tree, n: usize) -> Vec<u64> {
         .unwrap_or_default()
 }
 
+/// What is to be built: geometry, tree, list and block numbers, right or not,
+/// and the bytes that the planned blocks take.
+pub fn to_build(r: &mut Random) -> (Geometry, Tree, Vec<u8>, Vec<u32>, usize) {
+    let bad = r.below(50) == 0;
+    let g = geometry(r, bad);
+    let tree = r.pick(&Tree::BOTH);
+    let n = sizes(r, &g, tree);
+    let mut list = list(r, tree, n);
+    match r.below(20) {
+        0 if !list.is_empty() => {
+            let at = r.below(list.len() as u64) as usize;
+            list[at] ^= 1 << r.below(8);
+        }
+        1 => list.truncate(list.len().saturating_sub(1 + r.below(11) as usize)),
+        2 => list.push(0),
+        _ => (),
+    }
+    let total = planned(&g, tree, list.len() / tree.record_len())
+        .iter()
+        .sum::<u64>() as usize;
+    let mut given = match r.below(12) {
+        0 => total + 1,
+        1 => total.saturating_sub(1),
+        2 => 0,
+        _ => total,
+    };
+    if given > 100_000 {
+        given = 3;
+    }
+    let mut at: Vec<u32> = (0..given).map(|_| r.next() as u32).collect();
+    if r.below(10) == 0 && given > 1 {
+        at[0] = at[1];
+    }
+    let exact = (total.min(100_000) as u64 * g.block_size.min(65536)) as usize;
+    (g, tree, list, at, exact)
+}
+
 pub fn builds(r: &mut Random, scale: u64, tally: &mut Tally) {
     for _ in 0..15_000 * scale {
-        let bad = r.below(50) == 0;
-        let g = geometry(r, bad);
-        let tree = r.pick(&Tree::BOTH);
-        let n = sizes(r, &g, tree);
-        let mut list = list(r, tree, n);
-        match r.below(20) {
-            0 if !list.is_empty() => {
-                let at = r.below(list.len() as u64) as usize;
-                list[at] ^= 1 << r.below(8);
-            }
-            1 => list.truncate(list.len().saturating_sub(1 + r.below(11) as usize)),
-            2 => list.push(0),
-            _ => (),
-        }
-        let total = planned(&g, tree, list.len() / tree.record_len())
-            .iter()
-            .sum::<u64>() as usize;
-        let mut given = match r.below(12) {
-            0 => total + 1,
-            1 => total.saturating_sub(1),
-            2 => 0,
-            _ => total,
-        };
-        if given > 100_000 {
-            given = 3;
-        }
-        let mut at: Vec<u32> = (0..given).map(|_| r.next() as u32).collect();
-        if r.below(10) == 0 && given > 1 {
-            at[0] = at[1];
-        }
-        let exact = (total.min(100_000) as u64 * g.block_size.min(65536)) as usize;
+        let (g, tree, list, at, exact) = to_build(r);
         let room = match r.below(8) {
             0 => exact.saturating_sub(1),
             1 => exact.saturating_sub(r.below(exact as u64 + 1) as usize),

@@ -4,9 +4,8 @@ use Prim.Native.Nat.{ℕ}
 use mathlib.Core.Bool.{true}
 use mathlib.Core.Path.{_≡_, refl, subst}
 use mathlib.Core.List.{List, [], _∷_, _++_}
-use native.Mathlib.Omega.{arith}
 use Rattle.codec.specs.Bytes.{IsBytes}
-use Rattle.codec.specs.Question.{Values, done, refused, Question, ask, answer}
+use Rattle.codec.specs.Question.{Values, done, refused, Question, ask}
 use Rattle.codec.specs.Records.{recordsOf, rmaps, refcounts}
 use Rattle.codec.specs.Rmaps as rmap
 use Rattle.codec.specs.declared.rmap.Rmap.{Rmap}
@@ -14,26 +13,11 @@ use Rattle.codec.proofs.Meaning.{AllHold, done-means}
 use Rattle.codec.proofs.RecordKinds.{rmaps-lawful, refcounts-lawful}
 use Rattle.codec.proofs.ListBytes.{storable-recordsOf}
 use Rattle.lists.specs.Release.{unshared}
-use Rattle.lists.proofs.Cases.{split}
 use Rattle.lists.proofs.RmapOrder.{good-facts}
 use Rattle.lists.proofs.Laws.{GivenUp, remove-gives, LetGo, release-lets}
 use Rattle.groups.specs.Joint.{NewLists, fitAll}
 use Rattle.groups.specs.LetGo.{letting, letGoQuestions, letGoOutcome}
-
--- ---- the last question of a call
-
--- none of the questions has the number n
-abbrev Others : ℕ → List Question → Type 0
-Others n [] = Unit {0}
-Others n (q ∷ qs) = (q .number ≡ n → ⊥) × Others n qs
-
-last-holds : {A : Type 0} (n : ℕ) (v : Values) (qs : List Question) (q : Question) (x : A) → Others n qs → answer (qs ++ (q ∷ [])) (done x) ≡ refused n v
-    → AllHold qs
-last-holds n v [] q x o e = tt
-last-holds n v (p ∷ qs) q x o e =
-    split (p .holds)
-    (λ h. (h, last-holds n v qs q x (o .1) (rw h at e)))
-    (λ h. let f : refused (p .number) (p .values) ≡ refused n v = rw h at e in absurd (o .0 cc))
+use Rattle.groups.proofs.Asking.{others, last-asked}
 
 module _ (map counts : List ℕ) (x : Rmap) (room countsRoom freeRoom : ℕ) where
   abbrev g : NewLists
@@ -45,12 +29,7 @@ module _ (map counts : List ℕ) (x : Rmap) (room countsRoom freeRoom : ℕ) whe
   -- a lack of room is told only where every other question holds
   pub room-last : (v : Values) → letGoOutcome map counts x room countsRoom freeRoom ≡ refused 26 v → AllHold (letGoQuestions map counts x)
   unfolding letGoOutcome
-  room-last v e =
-      last-holds 26 v (letGoQuestions map counts x) room-question g (
-        λ h. omega arith,
-        (λ h. omega arith, (λ h. omega arith, (λ h. omega arith, (λ h. omega arith, (λ h. omega arith, (λ h. omega arith, tt)))))),
-      )
-      e
+  room-last v e = last-asked 26 v (letGoQuestions map counts x) room-question g (unfold others in refl) e .0
 
   -- ---- what an accepted letting go leaves
 

@@ -1,4 +1,5 @@
 pub mod Agreement
+pub mod Asking
 pub mod Letting
 pub mod Returning
 pub mod TakingAll
@@ -7,8 +8,8 @@ pub mod Example
 pub mod History
 pub mod Storing
 pub mod Calling
+pub mod Rooms
 pub mod Table
-pub mod Asking
 pub mod Measuring
 pub mod LettingGo
 pub mod HeldQuestions

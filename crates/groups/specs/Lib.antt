@@ -6,4 +6,5 @@ pub mod TakeHeld
 pub mod Answer
 pub mod History
 pub mod Calls
+pub mod Room
 pub mod inner

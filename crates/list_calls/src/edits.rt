@@ -26,14 +26,14 @@ pub extern "C" fn kf_insert(
     blockcount: u32,
     owner: u64,
     offset: u64,
-    new: &mut [u8],
+    new_map: &mut [u8],
     said: &mut [u64; 4],
 ) -> u32
-    ensures { λ r. ⌜ EditSays (insertOutcome (now (old .entry)) (extentOf startblock blockcount owner offset) (length (now (new .entry)))) r
-        (now (said .exit)) (now (new .entry)) (now (new .exit)) ⌝ }
+    ensures { λ r. ⌜ EditSays (insertOutcome (now (old .entry)) (extentOf startblock blockcount owner offset) (length (now («new_map» .entry))))
+        r (now (said .exit)) (now («new_map» .entry)) (now («new_map» .exit)) ⌝ }
 {
     let x = extent(startblock, blockcount, owner, offset);
-    say(edited_answer(insert(old, x, new)), said)
+    say(edited_answer(insert(old, x, new_map)), said)
 }
 
 // Takes an extent whose blocks others may hold: questions 19, 20, 22, 23 and 26. The counts are left alone: kf_take_held is the call for held
@@ -45,14 +45,14 @@ pub extern "C" fn kf_insert_shared(
     blockcount: u32,
     owner: u64,
     offset: u64,
-    new: &mut [u8],
+    new_map: &mut [u8],
     said: &mut [u64; 4],
 ) -> u32
-    ensures { λ r. ⌜ EditSays (insertSharedOutcome (now (old .entry)) (extentOf startblock blockcount owner offset) (length (now (new .entry)))) r
-        (now (said .exit)) (now (new .entry)) (now (new .exit)) ⌝ }
+    ensures { λ r. ⌜ EditSays (insertSharedOutcome (now (old .entry)) (extentOf startblock blockcount owner offset) (length (now («new_map» .entry))))
+        r (now (said .exit)) (now («new_map» .entry)) (now («new_map» .exit)) ⌝ }
 {
     let x = extent(startblock, blockcount, owner, offset);
-    say(edited_answer(insert_shared(old, x, new)), said)
+    say(edited_answer(insert_shared(old, x, new_map)), said)
 }
 
 // Gives an extent up: questions 19, 20, 22, 24 and 26.
@@ -63,14 +63,14 @@ pub extern "C" fn kf_remove(
     blockcount: u32,
     owner: u64,
     offset: u64,
-    new: &mut [u8],
+    new_map: &mut [u8],
     said: &mut [u64; 4],
 ) -> u32
-    ensures { λ r. ⌜ EditSays (removeOutcome (now (old .entry)) (extentOf startblock blockcount owner offset) (length (now (new .entry)))) r
-        (now (said .exit)) (now (new .entry)) (now (new .exit)) ⌝ }
+    ensures { λ r. ⌜ EditSays (removeOutcome (now (old .entry)) (extentOf startblock blockcount owner offset) (length (now («new_map» .entry))))
+        r (now (said .exit)) (now («new_map» .entry)) (now («new_map» .exit)) ⌝ }
 {
     let x = extent(startblock, blockcount, owner, offset);
-    say(edited_answer(remove(old, x, new)), said)
+    say(edited_answer(remove(old, x, new_map)), said)
 }
 
 // Lowers the counts over an extent: questions 19, 21, 22, 25 and 26. The figures are the bytes of the new counts and of the free extents.
@@ -79,14 +79,15 @@ pub extern "C" fn kf_release(
     counts: &[u8],
     startblock: u32,
     blockcount: u32,
-    new: &mut [u8],
-    free: &mut [u8],
+    new_counts: &mut [u8],
+    free_extents: &mut [u8],
     said: &mut [u64; 4],
 ) -> u32
-    ensures { λ r. ⌜ ReleaseSays (releaseOutcome (now (counts .entry)) startblock blockcount (length (now (new .entry))) (length (now (free .entry)))) r
-        (now (said .exit)) (now (new .entry)) (now (new .exit)) (now (free .entry)) (now (free .exit)) ⌝ }
+    ensures { λ r. ⌜ ReleaseSays
+        (releaseOutcome (now (counts .entry)) startblock blockcount (length (now («new_counts» .entry))) (length (now («free_extents» .entry))))
+        r (now (said .exit)) (now («new_counts» .entry)) (now («new_counts» .exit)) (now («free_extents» .entry)) (now («free_extents» .exit)) ⌝ }
 {
-    let released = release(counts, startblock, blockcount, new, free);
+    let released = release(counts, startblock, blockcount, new_counts, free_extents);
     say(released_answer(released), said)
 }
 
@@ -102,17 +103,17 @@ pub extern "C" fn kf_let_go(
     offset: u64,
     new_map: &mut [u8],
     new_counts: &mut [u8],
-    free: &mut [u8],
+    free_extents: &mut [u8],
     said: &mut [u64; 4],
 ) -> u32
     ensures { λ r. ⌜ GroupEditSays
         (letGoOutcome (now (map .entry)) (now (counts .entry)) (extentOf startblock blockcount owner offset)
-        (length (now («new_map» .entry))) (length (now («new_counts» .entry))) (length (now (free .entry))))
+        (length (now («new_map» .entry))) (length (now («new_counts» .entry))) (length (now («free_extents» .entry))))
         r (now (said .exit)) (now («new_map» .entry)) (now («new_map» .exit)) (now («new_counts» .entry)) (now («new_counts» .exit))
-        (now (free .entry)) (now (free .exit)) ⌝ }
+        (now («free_extents» .entry)) (now («free_extents» .exit)) ⌝ }
 {
     let x = extent(startblock, blockcount, owner, offset);
-    let edited = let_go(map, counts, x, new_map, new_counts, free);
+    let edited = let_go(map, counts, x, new_map, new_counts, free_extents);
     say(group_edited_answer(edited), said)
 }
 

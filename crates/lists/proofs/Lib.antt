@@ -33,3 +33,4 @@ pub mod RaiseExits
 pub mod Staying
 pub mod Settling
 pub mod OnlyCounts
+pub mod Growing

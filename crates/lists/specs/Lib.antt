@@ -10,4 +10,5 @@ pub mod Answer
 pub mod Splice
 pub mod Steps
 pub mod Settled
+pub mod Growth
 pub mod inner

@@ -4,14 +4,14 @@ use Prim.Native.Nat.{ℕ, _+_, _-_, _≤_, min, max}
 use mathlib.Core.Path.{_≡_}
 use mathlib.Core.Bool.{Bool, true, not, cond, _&&_}
 use mathlib.Core.List.{List, [], _∷_, _++_}
-use lib.Dec.{ltb, leb}
+use lib.Dec.{leb}
 use lib.ListN.{length}
 use Rattle.codec.specs.Accepted.{endLimit}
 use Rattle.codec.specs.Question.{Outcome, done, ask, answer}
 use Rattle.codec.specs.Records.{recordsOf, bytesOf, refcounts}
 use Rattle.codec.specs.Refcounts.{maxRefcount, staging, accepted}
 use Rattle.codec.specs.declared.refcount.Refcount.{Refcount}
-use Rattle.lists.specs.Release.{clear, stop, piece, cutBy, joinAll}
+use Rattle.lists.specs.Release.{clear, stop, meets, piece, cutBy, joinAll}
 use Rattle.lists.specs.Edits.{extentQuestions}
 
 -- the shared record r with one owner more from s up to e
@@ -31,7 +31,7 @@ raise s e l = joinAll (raiseAll s e l)
 
 -- does the shared record r meet the blocks from s up to e with 4,294,967,295 owners, the most that its bytes can hold?
 unfoldable pub full : ℕ → ℕ → Refcount → Bool
-full s e r = leb maxRefcount (r .refcount) && (not (staging r) && (ltb s (stop r) && ltb (r .startblock) e))
+full s e r = leb maxRefcount (r .refcount) && meets s e r
 
 -- 28: has no shared record that meets the blocks from s up to e as many owners already?
 unfoldable pub ownersFit : ℕ → ℕ → List Refcount → Bool

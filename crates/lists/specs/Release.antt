@@ -25,6 +25,10 @@ clear s e (r ∷ l) = not (staging r && (ltb (block r) e && ltb s (end r))) && c
 abbrev pub stop : Refcount → ℕ
 stop r = r .startblock + r .blockcount
 
+-- does it meet the blocks from s up to e?
+abbrev pub meets : ℕ → ℕ → Refcount → Bool
+meets s e r = not (staging r) && (ltb s (stop r) && ltb (r .startblock) e)
+
 -- the blocks from a up to z with n owners; none where there is no block
 unfoldable pub piece : ℕ → ℕ → ℕ → List Refcount
 piece a z n = cond (ltb a z) (record { startblock = a; blockcount = z - a; refcount = n } ∷ []) []

@@ -1,0 +1,93 @@
+//! What tells a group and a tree apart from others.
+
+use crate::raw::{KF_KIND_REFCOUNT, KF_KIND_RMAP};
+use crate::records::{REFCOUNT, RMAP};
+use core::fmt;
+
+/// What every call on blocks is given of a volume and its group.
+///
+/// ```
+/// let g = kf::Geometry::new(5, 4096, 1 << 20, 3, [7; 16]);
+/// assert_eq!((g.blocksize, g.agno), (4096, 3));
+/// ```
+#[derive(Debug, Clone, Copy, PartialEq, Eq, Hash)]
+#[non_exhaustive]
+pub struct Geometry {
+    /// The version of XFS: 4 or 5.
+    pub version: u16,
+    /// The block size in bytes.
+    pub blocksize: u32,
+    /// The blocks of a group.
+    pub agblocks: u32,
+    /// The group's number.
+    pub agno: u32,
+    /// The volume's UUID, as its blocks have it.
+    pub meta_uuid: [u8; 16],
+}
+
+impl Geometry {
+    /// A geometry as given; the calls ask whether it is valid (question 1).
+    pub const fn new(
+        version: u16,
+        blocksize: u32,
+        agblocks: u32,
+        agno: u32,
+        meta_uuid: [u8; 16],
+    ) -> Geometry {
+        Geometry {
+            version,
+            blocksize,
+            agblocks,
+            agno,
+            meta_uuid,
+        }
+    }
+
+    /// The UUID as the interface takes it: two big-endian numbers.
+    pub(crate) fn uuid_halves(&self) -> (u64, u64) {
+        let n = u128::from_be_bytes(self.meta_uuid);
+        ((n >> 64) as u64, n as u64)
+    }
+}
+
+/// Which of the two trees of a group.
+#[derive(Debug, Clone, Copy, PartialEq, Eq, Hash)]
+#[non_exhaustive]
+pub enum Kind {
+    /// The reverse map.
+    Rmap,
+    /// The shared counts.
+    Refcount,
+}
+
+impl Kind {
+    /// The bytes of a record of such a tree.
+    ///
+    /// ```
+    /// assert_eq!(kf::Kind::Rmap.record_len(), kf::RMAP);
+    /// assert_eq!(kf::Kind::Refcount.record_len(), kf::REFCOUNT);
+    /// ```
+    pub const fn record_len(self) -> usize {
+        match self {
+            Kind::Rmap => RMAP,
+            Kind::Refcount => REFCOUNT,
+        }
+    }
+
+    /// As the interface takes it.
+    pub(crate) const fn number(self) -> u32 {
+        match self {
+            Kind::Rmap => KF_KIND_RMAP,
+            Kind::Refcount => KF_KIND_REFCOUNT,
+        }
+    }
+}
+
+impl fmt::Display for Kind {
+    fn fmt(&self, f: &mut fmt::Formatter<'_>) -> fmt::Result {
+        f.write_str(match self {
+            Kind::Rmap => "reverse map",
+            Kind::Refcount => "shared counts",
+        })
+    }
+}

@@ -1,0 +1,442 @@
+//! The same calls over vectors that size themselves.
+//!
+//! How much longer a list can get is a law of the library:
+//! `crates/groups/specs/Room.antt` of the repository states it (`EveryRoom`),
+//! and it is proved. That the sizes below are those of the law is checked by
+//! tests.
+
+use crate::geometry::{Geometry, Kind};
+use crate::lent::{self, Lent, NewLists, Plan};
+use crate::question::{Refusal, WalkRefusal};
+use crate::records::{
+    free_extents, refcounts, rmaps, FreeExtent, Records, Refcount, Rmap, FREE_EXTENT, REFCOUNT,
+    RMAP,
+};
+use alloc::vec;
+use alloc::vec::Vec;
+use core::{fmt, mem};
+
+#[cfg(test)]
+mod tests;
+
+/// Where a tree begins, as the group's header has it.
+#[derive(Debug, Clone, Copy, PartialEq, Eq, Hash)]
+#[non_exhaustive]
+pub struct Root {
+    /// The number of the root in the group (`agf_rmap_root`,
+    /// `agf_refcount_root`).
+    pub root: u32,
+    /// The levels (`agf_rmap_level`, `agf_refcount_level`).
+    pub levels: u32,
+    /// The most blocks that the tree may have (`agf_rmap_blocks`,
+    /// `agf_refcount_blocks`).
+    pub blocks: usize,
+}
+
+impl Root {
+    /// The three, as given.
+    ///
+    /// ```
+    /// let root = kf::Root::new(8, 2, 25);
+    /// assert_eq!((root.root, root.levels, root.blocks), (8, 2, 25));
+    /// ```
+    pub const fn new(root: u32, levels: u32, blocks: usize) -> Root {
+        Root {
+            root,
+            levels,
+            blocks,
+        }
+    }
+}
+
+/// Does question 1 accept the block size? Any other is refused before lent
+/// memory is asked about, so that none has to be taken for it.
+fn blocksize_is_valid(g: &Geometry) -> bool {
+    g.blocksize.is_power_of_two() && (512..=65_536).contains(&g.blocksize)
+}
+
+/// The places that a walk's stack has to have: twice the levels, times the
+/// entries that a node has room for. More than nine levels are refused.
+fn stack_places(g: &Geometry, kind: Kind, levels: u32) -> usize {
+    let header = if g.version == 5 { 56 } else { 16 };
+    let entry = match kind {
+        Kind::Rmap => 44,
+        Kind::Refcount => 8,
+    };
+    2 * levels.min(9) as usize * ((g.blocksize as usize - header) / entry)
+}
+
+/// A tree that was walked.
+#[derive(Debug, Clone, PartialEq, Eq)]
+#[non_exhaustive]
+pub struct Tree {
+    /// Its blocks by level, leaves first.
+    pub blocks: Vec<u32>,
+    /// The bytes of its records.
+    pub records: Vec<u8>,
+    /// Whether every level is linked.
+    pub linked: bool,
+}
+
+impl Tree {
+    /// Reads a tree from its root, as [`walk_linked`](crate::walk_linked) does,
+    /// and never answers 12. The image is the group, block n at n times the
+    /// block size.
+    ///
+    /// There is room for `root.blocks` blocks, but for no more than the image
+    /// has and no more than a walk visits, max(agblocks, 64); a tree that comes
+    /// to no block twice has no more than these. A tree of more is refused by
+    /// 15, or by 13 where it has more than a walk visits.
+    ///
+    /// ```
+    /// use kf::{build, Geometry, Kind, Rmap, Root, Tree};
+    /// let g = Geometry::new(5, 512, 9, 0, [7; 16]);
+    /// let list: Vec<u8> = (0..50)
+    ///     .flat_map(|i| Rmap { startblock: 8 * i, blockcount: 2, owner: 7, offset: 0 }.to_bytes())
+    ///     .collect();
+    /// // Three leaves and the root, one after another in an image of four blocks.
+    /// let numbers = [0, 1, 2, 3];
+    /// let mut image = [0; 4 * 512];
+    /// build(&g, Kind::Rmap, &list, &numbers, &mut image).unwrap();
+    /// let tree = Tree::walk(&g, Kind::Rmap, &image, Root::new(3, 2, 4)).unwrap();
+    /// assert_eq!((tree.blocks, tree.records), (numbers.to_vec(), list));
+    /// assert!(tree.linked);
+    /// // The same with room for three blocks.
+    /// let refused = Tree::walk(&g, Kind::Rmap, &image, Root::new(3, 2, 3)).unwrap_err();
+    /// assert_eq!((refused.refusal.number, refused.visits), (15, 4));
+    /// ```
+    pub fn walk(g: &Geometry, kind: Kind, image: &[u8], root: Root) -> Result<Tree, WalkRefusal> {
+        let (most, places) = if blocksize_is_valid(g) {
+            let most = root.blocks.min(g.agblocks.max(64) as usize);
+            (
+                most.min(image.len() / g.blocksize as usize),
+                stack_places(g, kind, root.levels),
+            )
+        } else {
+            (0, 0)
+        };
+        let mut stack = vec![0; places];
+        let (mut scratch, mut blocks) = (vec![0; most], vec![0; most]);
+        // No longer than the image, so the product does not overflow.
+        let mut records = vec![0; most * g.blocksize as usize];
+        let lent = Lent::new(&mut stack, &mut scratch, &mut blocks, &mut records);
+        let (walked, linked) = lent::walk_linked(g, kind, image, root.root, root.levels, lent)?;
+        blocks.truncate(walked.visits);
+        records.truncate(walked.bytes);
+        Ok(Tree {
+            blocks,
+            records,
+            linked,
+        })
+    }
+}
+
+/// How many shared records meet the extent.
+///
+/// In accepted counts both the starts as on disk and the ends ascend, and a
+/// staging record starts, as on disk, where no good extent reaches; so two
+/// searches tell. Of counts that are not accepted and of an extent that is not
+/// good the number means nothing, but then 21 or 22 refuses, asked before 26.
+fn met(counts: &[u8], x: &Rmap) -> usize {
+    let start = u64::from(x.startblock);
+    let begun = first_not(counts, |r| u64::from(r.startblock) < x.end());
+    let ended = first_not(counts, |r| {
+        u64::from(r.startblock) + u64::from(r.blockcount) <= start
+    });
+    begun.saturating_sub(ended)
+}
+
+/// How many records stand before the first for which `before` does not hold.
+fn first_not(counts: &[u8], before: impl Fn(Refcount) -> bool) -> usize {
+    let records = refcounts(counts);
+    let (mut low, mut high) = (0, records.len());
+    while low < high {
+        let middle = low + (high - low) / 2;
+        match records.clone().nth(middle) {
+            Some(r) if before(r) => low = middle + 1,
+            _ => high = middle,
+        }
+    }
+    low
+}
+
+/// The two lists of a group, edited together.
+///
+/// Its calls size what they lend by themselves, so that none answers 26, and
+/// keep it for the next: a group takes about twice the memory of its lists. A
+/// refusal changes nothing. By how much a list can get longer is proved
+/// (`crates/groups/specs/Room.antt` of the repository); that as much is lent is
+/// this crate's part, which is tested.
+///
+/// ```
+/// use kf::{FreeExtent, Group, Refcount, Rmap};
+/// # fn main() -> Result<(), kf::Refusal> {
+/// let mut group = Group::default();
+/// // Inode 131 takes eight blocks, and inode 132 shares four of them.
+/// let first = Rmap { startblock: 100, blockcount: 8, owner: 131, offset: 0 };
+/// let clone = Rmap { startblock: 102, blockcount: 4, owner: 132, offset: 0 };
+/// group.take(&first)?;
+/// group.take_held(&clone)?;
+/// let shared = Refcount { startblock: 102, blockcount: 4, refcount: 2 };
+/// assert!(group.refcounts().eq([shared]));
+/// // Let go, the four are still held.
+/// let free = group.let_go(&first)?;
+/// let before = FreeExtent { startblock: 100, blockcount: 2 };
+/// let after = FreeExtent { startblock: 106, blockcount: 2 };
+/// assert_eq!(free, [before, after]);
+/// assert!(group.rmaps().eq([clone]));
+/// assert_eq!(group.refcounts().len(), 0);
+/// # Ok(())
+/// # }
+/// ```
+#[derive(Default)]
+pub struct Group {
+    /// The bytes of the reverse map.
+    pub map: Vec<u8>,
+    /// The bytes of the shared counts.
+    pub counts: Vec<u8>,
+    spare: Spare,
+}
+
+/// What edits write to. An edit that is done exchanges it with the old lists, so
+/// that the next one takes no memory where the lists stay about as long.
+#[derive(Default)]
+struct Spare {
+    map: Vec<u8>,
+    counts: Vec<u8>,
+    free: Vec<u8>,
+}
+
+/// So many bytes of a vector; what they hold means nothing.
+fn lend(spare: &mut Vec<u8>, len: usize) -> &mut [u8] {
+    spare.resize(len, 0);
+    spare
+}
+
+/// What was written, cut to its length, in place of the list.
+fn replace(list: &mut Vec<u8>, spare: &mut Vec<u8>, len: usize) {
+    spare.truncate(len);
+    mem::swap(list, spare);
+}
+
+impl Clone for Group {
+    fn clone(&self) -> Group {
+        Group::new(self.map.clone(), self.counts.clone())
+    }
+}
+
+impl PartialEq for Group {
+    fn eq(&self, other: &Group) -> bool {
+        (&self.map, &self.counts) == (&other.map, &other.counts)
+    }
+}
+
+impl Eq for Group {}
+
+impl fmt::Debug for Group {
+    fn fmt(&self, f: &mut fmt::Formatter<'_>) -> fmt::Result {
+        f.debug_struct("Group")
+            .field("map", &self.rmaps())
+            .field("counts", &self.refcounts())
+            .finish_non_exhaustive()
+    }
+}
+
+impl Group {
+    /// The group of two lists; the calls ask whether they are accepted.
+    ///
+    /// ```
+    /// use kf::{Group, Rmap};
+    /// let a = Rmap { startblock: 4, blockcount: 2, owner: 131, offset: 0 };
+    /// let group = Group::new(a.to_bytes().to_vec(), vec![]);
+    /// assert!(group.rmaps().eq([a]));
+    /// ```
+    pub const fn new(map: Vec<u8>, counts: Vec<u8>) -> Group {
+        let spare = Spare {
+            map: Vec::new(),
+            counts: Vec::new(),
+            free: Vec::new(),
+        };
+        Group { map, counts, spare }
+    }
+
+    /// Reads both trees of a group, the reverse map first; [`Tree::walk`] says
+    /// how. What the walks accept are blocks: the lists are asked about by the
+    /// calls that edit or build them.
+    ///
+    /// ```
+    /// use kf::{Geometry, Group, Kind, Rmap, Root};
+    /// let g = Geometry::new(5, 512, 9, 0, [7; 16]);
+    /// let mut group = Group::default();
+    /// group.take(&Rmap { startblock: 4, blockcount: 2, owner: 131, offset: 0 }).unwrap();
+    /// // Block 0 is the tree of the map, block 1 that of the counts.
+    /// let mut image = group.build(&g, Kind::Rmap, &[0]).unwrap();
+    /// image.extend(group.build(&g, Kind::Refcount, &[1]).unwrap());
+    /// let (map, counts) = (Root::new(0, 1, 1), Root::new(1, 1, 1));
+    /// assert_eq!(Group::walk(&g, &image, map, counts), Ok(group));
+    /// // Exchanged they are refused, with words for people.
+    /// let refused = Group::walk(&g, &image, counts, map).unwrap_err();
+    /// assert_eq!(
+    ///     refused.to_string(),
+    ///     "reverse map: wrong magic number (4): \
+    ///      expected 0x524d4233, found 0x52334643, after 1 visit",
+    /// );
+    /// ```
+    pub fn walk(g: &Geometry, image: &[u8], map: Root, counts: Root) -> Result<Group, WalkRefusal> {
+        let map = Tree::walk(g, Kind::Rmap, image, map)?;
+        let counts = Tree::walk(g, Kind::Refcount, image, counts)?;
+        Ok(Group::new(map.records, counts.records))
+    }
+
+    /// The bytes of the list of a kind.
+    ///
+    /// ```
+    /// use kf::{Group, Kind};
+    /// let group = Group::new(vec![0; 24], vec![]);
+    /// assert_eq!(group.list(Kind::Rmap), [0; 24]);
+    /// assert_eq!(group.list(Kind::Refcount), []);
+    /// ```
+    pub fn list(&self, kind: Kind) -> &[u8] {
+        match kind {
+            Kind::Rmap => &self.map,
+            Kind::Refcount => &self.counts,
+        }
+    }
+
+    /// The records of the reverse map.
+    ///
+    /// ```
+    /// assert_eq!(kf::Group::default().rmaps().len(), 0);
+    /// ```
+    pub fn rmaps(&self) -> Records<'_, Rmap> {
+        rmaps(&self.map)
+    }
+
+    /// The records of the shared counts.
+    ///
+    /// ```
+    /// assert_eq!(kf::Group::default().refcounts().len(), 0);
+    /// ```
+    pub fn refcounts(&self) -> Records<'_, Refcount> {
+        refcounts(&self.counts)
+    }
+
+    /// Takes an extent of which no block is held, as
+    /// [`insert`](crate::insert) does. Questions 19, 20, 22 and 23.
+    ///
+    /// ```
+    /// use kf::{Group, Question, Rmap};
+    /// let mut group = Group::default();
+    /// let a = Rmap { startblock: 4, blockcount: 2, owner: 131, offset: 0 };
+    /// group.take(&a).unwrap();
+    /// assert_eq!(group.map, a.to_bytes());
+    /// let refusal = group.take(&a).unwrap_err();
+    /// assert_eq!(refusal.question(), Some(Question::Overlap));
+    /// assert_eq!(group.map, a.to_bytes());
+    /// ```
+    pub fn take(&mut self, x: &Rmap) -> Result<(), Refusal> {
+        let new = lend(&mut self.spare.map, self.map.len() + RMAP);
+        let taken = lent::insert(&self.map, x, new)?;
+        replace(&mut self.map, &mut self.spare.map, taken);
+        Ok(())
+    }
+
+    /// Takes an extent whose blocks are all held, as
+    /// [`take_held`](crate::take_held) does, and raises the counts over it.
+    /// Questions 19 and 20, then 19 and 21, then 22, 23, 25, 27 and 28.
+    ///
+    /// ```
+    /// use kf::{Group, Question, Refcount, Rmap};
+    /// let mut group = Group::default();
+    /// let a = Rmap { startblock: 4, blockcount: 2, owner: 131, offset: 0 };
+    /// let b = Rmap { owner: 132, ..a };
+    /// let refusal = group.take_held(&b).unwrap_err();
+    /// assert_eq!(refusal.question(), Some(Question::Unheld));
+    /// group.take(&a).unwrap();
+    /// group.take_held(&b).unwrap();
+    /// assert!(group.rmaps().eq([a, b]));
+    /// let shared = Refcount { startblock: 4, blockcount: 2, refcount: 2 };
+    /// assert!(group.refcounts().eq([shared]));
+    /// ```
+    pub fn take_held(&mut self, x: &Rmap) -> Result<(), Refusal> {
+        // Two more where the extent cuts a record at each of its ends, and one for
+        // each gap; where it cuts one there is no gap on that side, so that in all
+        // it is one more than shared records met at most.
+        let more = met(&self.counts, x) + 1;
+        let map = lend(&mut self.spare.map, self.map.len() + RMAP);
+        let counts = lend(&mut self.spare.counts, self.counts.len() + more * REFCOUNT);
+        let taken = lent::take_held(&self.map, &self.counts, x, map, counts)?;
+        replace(&mut self.map, &mut self.spare.map, taken.map);
+        replace(&mut self.counts, &mut self.spare.counts, taken.counts);
+        Ok(())
+    }
+
+    /// Lets an extent go, as [`let_go`](crate::let_go) does: what of it nobody
+    /// holds any more, as longest runs, ascending. Questions 19, 20, 22 and 24,
+    /// then 19, 21 and 25.
+    ///
+    /// ```
+    /// use kf::{FreeExtent, Group, Question, Rmap};
+    /// let mut group = Group::default();
+    /// let a = Rmap { startblock: 4, blockcount: 8, owner: 131, offset: 0 };
+    /// group.take(&a).unwrap();
+    /// // The middle goes, and the map has a record more.
+    /// let hole = Rmap { startblock: 6, blockcount: 3, owner: 131, offset: 2 };
+    /// let free = group.let_go(&hole).unwrap();
+    /// assert_eq!(free, [FreeExtent { startblock: 6, blockcount: 3 }]);
+    /// assert_eq!(group.rmaps().len(), 2);
+    /// let refusal = group.let_go(&hole).unwrap_err();
+    /// assert_eq!(refusal.question(), Some(Question::Missing));
+    /// ```
+    pub fn let_go(&mut self, x: &Rmap) -> Result<Vec<FreeExtent>, Refusal> {
+        let most = met(&self.counts, x) + 1;
+        let new = NewLists::new(
+            lend(&mut self.spare.map, self.map.len() + RMAP),
+            lend(&mut self.spare.counts, self.counts.len() + 2 * REFCOUNT),
+            lend(&mut self.spare.free, most * FREE_EXTENT),
+        );
+        let gone = lent::let_go(&self.map, &self.counts, x, new)?;
+        replace(&mut self.map, &mut self.spare.map, gone.map);
+        replace(&mut self.counts, &mut self.spare.counts, gone.counts);
+        Ok(free_extents(&self.spare.free[..gone.free]).collect())
+    }
+
+    /// The blocks of a fresh tree of the list of a kind, by level. Questions 1
+    /// and 16.
+    ///
+    /// ```
+    /// use kf::{Geometry, Group, Kind};
+    /// let g = Geometry::new(5, 512, 9, 0, [7; 16]);
+    /// // A tree of no records is one block.
+    /// assert_eq!(Group::default().plan(&g, Kind::Rmap).unwrap().total, 1);
+    /// ```
+    pub fn plan(&self, g: &Geometry, kind: Kind) -> Result<Plan, Refusal> {
+        lent::plan(g, kind, (self.list(kind).len() / kind.record_len()) as u64)
+    }
+
+    /// The blocks of a fresh tree of the list of a kind, one after another, root
+    /// last. `numbers` are their numbers in the group, leaves first, as many as
+    /// [`Group::plan`] says. Questions 1, 3, 19, 20 or 21, 16 and 17.
+    ///
+    /// ```
+    /// use kf::{check_block, Geometry, Group, Kind, Question};
+    /// let g = Geometry::new(5, 512, 9, 0, [7; 16]);
+    /// let group = Group::default();
+    /// let block = group.build(&g, Kind::Refcount, &[8]).unwrap();
+    /// assert!(check_block(&g, Kind::Refcount, 8, 0, &block).is_ok());
+    /// let refusal = group.build(&g, Kind::Refcount, &[7, 8]).unwrap_err();
+    /// assert_eq!(refusal.question(), Some(Question::BlockNumbers));
+    /// ```
+    pub fn build(&self, g: &Geometry, kind: Kind, numbers: &[u32]) -> Result<Vec<u8>, Refusal> {
+        // Where the plan is refused or has another number of blocks, 17 or a
+        // question before it refuses the build, so that nothing has to be lent.
+        let blocks = match self.plan(g, kind) {
+            Ok(plan) if plan.total == numbers.len() as u64 => numbers.len(),
+            _ => 0,
+        };
+        let mut out = vec![0; blocks * g.blocksize as usize];
+        let built = lent::build(g, kind, self.list(kind), numbers, &mut out)?;
+        out.truncate(built.bytes);
+        Ok(out)
+    }
+}

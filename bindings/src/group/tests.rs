@@ -1,0 +1,391 @@
+//! What the vectors lend is enough, whatever they are given.
+
+use super::*;
+use crate::{check_refcounts, check_rmaps, insert, let_go, take_held, Question};
+use alloc::collections::BTreeSet;
+
+/// Marsaglia's xorshift: numbers that are the same at each run.
+struct Random(u64);
+
+impl Random {
+    fn below(&mut self, n: u64) -> u64 {
+        self.0 ^= self.0 << 13;
+        self.0 ^= self.0 >> 7;
+        self.0 ^= self.0 << 17;
+        (self.0 >> 16) % n
+    }
+}
+
+#[derive(Debug, Clone, Copy)]
+enum Edit {
+    Take,
+    TakeHeld,
+    LetGo,
+}
+
+const EDITS: [Edit; 3] = [Edit::Take, Edit::TakeHeld, Edit::LetGo];
+
+/// The edit by the vectors.
+fn by_vectors(group: &mut Group, edit: Edit, x: &Rmap) -> Result<Vec<FreeExtent>, Refusal> {
+    match edit {
+        Edit::Take => group.take(x).map(|()| vec![]),
+        Edit::TakeHeld => group.take_held(x).map(|()| vec![]),
+        Edit::LetGo => group.let_go(x),
+    }
+}
+
+/// The edit by the call itself, on far more memory than it can need.
+fn by_call(group: &Group, edit: Edit, x: &Rmap) -> Result<(Group, Vec<FreeExtent>), Refusal> {
+    let plenty = 2 * (group.map.len() + group.counts.len()) + 1024;
+    let (mut map, mut counts, mut free) = (vec![0; plenty], vec![0; plenty], vec![0; plenty]);
+    let (m, c, f) = match edit {
+        Edit::Take => {
+            counts[..group.counts.len()].copy_from_slice(&group.counts);
+            (insert(&group.map, x, &mut map)?, group.counts.len(), 0)
+        }
+        Edit::TakeHeld => {
+            let t = take_held(&group.map, &group.counts, x, &mut map, &mut counts)?;
+            (t.map, t.counts, 0)
+        }
+        Edit::LetGo => {
+            let new = NewLists::new(&mut map, &mut counts, &mut free);
+            let t = let_go(&group.map, &group.counts, x, new)?;
+            (t.map, t.counts, t.free)
+        }
+    };
+    map.truncate(m);
+    counts.truncate(c);
+    Ok((Group::new(map, counts), free_extents(&free[..f]).collect()))
+}
+
+/// By how many records each list grew, at most, and how many free extents there
+/// were beyond the shared records met.
+#[derive(Debug, Default, PartialEq)]
+struct Growth {
+    map: usize,
+    counts_let_go: usize,
+    /// Beyond the shared records met.
+    counts_take_held: usize,
+    free: usize,
+}
+
+/// Both ways come to the same, and a refusal changes nothing. The group after
+/// it, if it was done.
+fn compared(group: &Group, edit: Edit, x: &Rmap, growth: &mut Growth) -> Option<Group> {
+    let mut new = group.clone();
+    match (by_vectors(&mut new, edit, x), by_call(group, edit, x)) {
+        (Err(refusal), Err(by_call)) => {
+            assert_eq!(refusal, by_call, "{edit:?} {x:?} {group:?}");
+            assert_ne!(refusal.question(), Some(Question::Room));
+            assert_eq!(new, *group);
+            None
+        }
+        (Ok(free), Ok((wanted, wanted_free))) => {
+            assert_eq!(
+                (&new, &free),
+                (&wanted, &wanted_free),
+                "{edit:?} {x:?} {group:?}"
+            );
+            let meets = |r: &Refcount| {
+                !r.is_staging()
+                    && u64::from(r.block()) < x.end()
+                    && u64::from(x.startblock) < r.end()
+            };
+            let shared = group.refcounts().filter(meets).count();
+            // A first take does not ask about the counts.
+            if !matches!(edit, Edit::Take) {
+                assert_eq!(met(&group.counts, x), shared, "{x:?} {group:?}");
+            }
+            let more = |new: &[u8], old: &[u8], len: usize| {
+                (new.len() / len).saturating_sub(old.len() / len)
+            };
+            let counts = more(&new.counts, &group.counts, REFCOUNT);
+            growth.map = growth.map.max(more(&new.map, &group.map, RMAP));
+            match edit {
+                Edit::Take => assert_eq!(new.counts, group.counts),
+                Edit::TakeHeld => {
+                    growth.counts_take_held =
+                        growth.counts_take_held.max(counts.saturating_sub(shared));
+                }
+                Edit::LetGo => {
+                    growth.counts_let_go = growth.counts_let_go.max(counts);
+                    growth.free = growth.free.max(free.len().saturating_sub(shared));
+                }
+            }
+            Some(new)
+        }
+        (a, b) => panic!("{edit:?} {x:?} {group:?}: {a:?}, by the call {b:?}"),
+    }
+}
+
+/// What the lists can grow by; each is met.
+const MOST: Growth = Growth {
+    map: 1,
+    counts_let_go: 2,
+    counts_take_held: 1,
+    free: 1,
+};
+
+/// The extents over the first blocks, each of three holders; the second is the
+/// first at another place of the file.
+fn extents(blocks: u32) -> Vec<Rmap> {
+    let mut all = vec![];
+    for (owner, offset) in [(1, 0), (1, 100), (2, 0)] {
+        for startblock in 0..blocks {
+            for blockcount in 1..=blocks - startblock {
+                let offset = offset + u64::from(startblock);
+                all.push(Rmap {
+                    startblock,
+                    blockcount,
+                    owner,
+                    offset,
+                });
+            }
+        }
+    }
+    all
+}
+
+/// Every group that a history over so many blocks comes to, and every edit on it.
+fn all_histories(blocks: u32, counts: Vec<u8>, growth: &mut Growth) -> usize {
+    let extents = extents(blocks);
+    let mut due = vec![Group::new(vec![], counts)];
+    let mut seen = BTreeSet::new();
+    while let Some(group) = due.pop() {
+        if !seen.insert((group.map.clone(), group.counts.clone())) {
+            continue;
+        }
+        for edit in EDITS {
+            due.extend(
+                extents
+                    .iter()
+                    .filter_map(|x| compared(&group, edit, x, growth)),
+            );
+        }
+    }
+    seen.len()
+}
+
+#[test]
+fn every_history_over_three_blocks() {
+    let mut growth = Growth::default();
+    // Each block has any of the sets of three holders; how the records are cut
+    // makes more of them.
+    assert!(all_histories(3, vec![], &mut growth) > 512);
+    assert_eq!(growth, MOST);
+}
+
+/// A let go and a take of held blocks are refused where block 1 is met.
+#[test]
+fn every_history_beside_staging() {
+    let staging = Refcount {
+        startblock: (1 << 31) | 1,
+        blockcount: 1,
+        refcount: 1,
+    };
+    let mut growth = Growth::default();
+    assert!(all_histories(3, staging.to_bytes().to_vec(), &mut growth) > 1);
+}
+
+#[test]
+fn long_histories() {
+    let mut random = Random(0x9E37_79B9_7F4A_7C15);
+    let mut growth = Growth::default();
+    for _ in 0..10 {
+        let mut group = Group::default();
+        for _ in 0..1000 {
+            let startblock = random.below(40) as u32;
+            let offset = 1000 * random.below(2) + u64::from(startblock);
+            let x = Rmap {
+                startblock,
+                blockcount: 1 + random.below(12) as u32,
+                owner: random.below(5) as i64 - 1,
+                offset,
+            };
+            let edit = EDITS[random.below(3) as usize];
+            if let Some(new) = compared(&group, edit, &x, &mut growth) {
+                group = new;
+            }
+        }
+        assert!(check_rmaps(&group.map).is_ok());
+        assert!(check_refcounts(&group.counts).is_ok());
+    }
+    assert_eq!(growth, MOST);
+}
+
+/// Many shared records and gaps under one extent.
+#[test]
+fn many_records_met() {
+    let mut group = Group::default();
+    let long = Rmap {
+        startblock: 0,
+        blockcount: 21,
+        owner: 1,
+        offset: 0,
+    };
+    group.take(&long).unwrap();
+    for i in 0..10 {
+        let startblock = 2 * i + 1;
+        let one = Rmap {
+            startblock,
+            blockcount: 1,
+            owner: 2,
+            offset: 0,
+        };
+        group.take_held(&one).unwrap();
+    }
+    assert_eq!(group.refcounts().len(), 10);
+    // Eleven gaps become records.
+    let mut raised = group.clone();
+    raised.take_held(&Rmap { owner: 3, ..long }).unwrap();
+    assert_eq!(raised.refcounts().len(), 21);
+    // Eleven gaps become free.
+    assert_eq!(group.let_go(&long).unwrap().len(), 11);
+    assert_eq!(group.refcounts().len(), 0);
+}
+
+/// Whatever the bytes and the extent are: no panic, and never 18 or 26.
+#[test]
+fn any_bytes() {
+    let mut random = Random(42);
+    let ends = [
+        0,
+        1,
+        2,
+        1 << 30,
+        (1 << 31) - 1,
+        1 << 31,
+        u32::MAX - 1,
+        u32::MAX,
+    ];
+    let mut growth = Growth::default();
+    for _ in 0..20_000 {
+        let mut end = || ends[random.below(8) as usize];
+        let x = Rmap {
+            startblock: end(),
+            blockcount: end(),
+            owner: 7,
+            offset: 0,
+        };
+        let mut group = Group::default();
+        // Half of them with a map that holds every block, so that the counts are
+        // asked about.
+        let all = Rmap {
+            startblock: 0,
+            blockcount: 1 << 31,
+            owner: -3,
+            offset: 0,
+        };
+        let map = if end() > 1 << 30 { all } else { x };
+        group.map.extend(map.to_bytes());
+        for _ in 0..end().min(2) {
+            let r = Refcount {
+                startblock: end(),
+                blockcount: end(),
+                refcount: end(),
+            };
+            group.counts.extend(r.to_bytes());
+        }
+        if random.below(4) == 0 {
+            group.map.truncate(random.below(25) as usize);
+            group.counts.truncate(random.below(25) as usize);
+        }
+        for edit in EDITS {
+            compared(&group, edit, &x, &mut growth);
+            let owner = -3;
+            compared(&group, edit, &Rmap { owner, ..x }, &mut growth);
+        }
+        let blocksize = ends[random.below(8) as usize];
+        for blocksize in [512, blocksize] {
+            let g = Geometry::new(4 + random.below(3) as u16, blocksize, 9, 0, [0; 16]);
+            for kind in [Kind::Rmap, Kind::Refcount] {
+                for numbers in [&[][..], &[1], &[1, 2]] {
+                    let answer = group.build(&g, kind, numbers);
+                    assert_ne!(answer.map_err(|r| r.number), Err(18));
+                }
+            }
+        }
+    }
+}
+
+/// An empty record ends where an empty extent starts, and does not start before
+/// the extent ends.
+#[test]
+fn ended_and_not_begun() {
+    let r = Refcount {
+        startblock: 5,
+        blockcount: 0,
+        refcount: 2,
+    };
+    let x = Rmap {
+        startblock: 5,
+        blockcount: 0,
+        owner: 7,
+        offset: 0,
+    };
+    assert_eq!(met(&r.to_bytes(), &x), 0);
+}
+
+/// Whatever the geometry and the root are: no panic, and never 12.
+#[test]
+fn any_root() {
+    let sizes = [0, 1, 511, 512, 513, 1024, 65_536, 65_537, 1 << 20, u32::MAX];
+    let image = vec![0xA5; 4096];
+    for version in [0, 4, 5, u16::MAX] {
+        for blocksize in sizes {
+            for (agblocks, blocks) in [(0, 0), (1, 1), (u32::MAX, usize::MAX)] {
+                for levels in [0, 1, 9, 10, u32::MAX] {
+                    for kind in [Kind::Rmap, Kind::Refcount] {
+                        let g = Geometry::new(version, blocksize, agblocks, 0, [7; 16]);
+                        let root = Root::new(0, levels, blocks);
+                        let refused = Tree::walk(&g, kind, &image, root).unwrap_err();
+                        let wanted = match (version, blocksize, levels) {
+                            (4 | 5, 512 | 1024 | 65_536, 0 | 10..) => 11,
+                            (4 | 5, 65_536, _) => 14,
+                            (4, 512 | 1024, _) => 3,
+                            (5, 512 | 1024, _) => 4,
+                            _ => 1,
+                        };
+                        assert_eq!(refused.refusal.number, wanted, "{g:?} {root:?}");
+                        assert_eq!(refused.kind, kind);
+                    }
+                }
+            }
+        }
+    }
+}
+
+/// A build has as many blocks as the plan says, and the walk needs no more room
+/// than these.
+#[test]
+fn built_and_walked() {
+    let g = Geometry::new(5, 512, 4000, 0, [7; 16]);
+    let mut group = Group::default();
+    for i in 0..2000u32 {
+        let r = Rmap {
+            startblock: 2 * i,
+            blockcount: 1,
+            owner: 7,
+            offset: 0,
+        };
+        group.map.extend(r.to_bytes());
+        let r = Refcount {
+            startblock: 2 * i,
+            blockcount: 1,
+            refcount: 2,
+        };
+        group.counts.extend(r.to_bytes());
+    }
+    let (mut image, mut roots) = (vec![], vec![]);
+    for kind in [Kind::Rmap, Kind::Refcount] {
+        let plan = group.plan(&g, kind).unwrap();
+        let from = (image.len() / 512) as u32;
+        let numbers: Vec<u32> = (from..from + plan.total as u32).collect();
+        let too_few = group.build(&g, kind, &numbers[1..]).unwrap_err();
+        assert_eq!(too_few.question(), Some(Question::BlockNumbers));
+        image.extend(group.build(&g, kind, &numbers).unwrap());
+        let root = numbers[numbers.len() - 1];
+        roots.push(Root::new(root, plan.levels().len() as u32, numbers.len()));
+    }
+    assert_eq!(Group::walk(&g, &image, roots[0], roots[1]), Ok(group));
+}

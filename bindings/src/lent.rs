@@ -1,0 +1,14 @@
+//! The calls of the library on memory that the caller lends, one function for
+//! each.
+
+mod lists;
+mod trees;
+
+pub use lists::{
+    check_refcounts, check_rmaps, insert, insert_shared, let_go, release, remove, take_held,
+    LetGone, NewLists, Released, TakenHeld,
+};
+pub use trees::{
+    build, check_block, crc32c, crc32c_singly, plan, walk, walk_linked, Built, Header, Lent, Plan,
+    Walked, NO_SIBLING,
+};

@@ -1,0 +1,416 @@
+//! CRC32C, and the calls on blocks and trees.
+
+use crate::geometry::{Geometry, Kind};
+use crate::question::{answer, Refusal, WalkRefusal};
+use crate::raw;
+
+/// What a block names as its sibling where there is none: at both ends of a
+/// level.
+pub const NO_SIBLING: u32 = u32::MAX;
+
+/// CRC32C of the bytes, four at a step.
+///
+/// ```
+/// assert_eq!(kf::crc32c(b"123456789"), 0xE306_9283);
+/// ```
+pub fn crc32c(bytes: &[u8]) -> u32 {
+    // SAFETY: a slice of bytes, which the call reads.
+    unsafe { raw::kf_crc32c(bytes.as_ptr(), bytes.len()) }
+}
+
+/// CRC32C of the bytes, one at a step: the same as [`crc32c`] on every input.
+///
+/// ```
+/// let block: Vec<u8> = (0..=255).collect();
+/// for from in 0..8 {
+///     assert_eq!(kf::crc32c_singly(&block[from..]), kf::crc32c(&block[from..]));
+/// }
+/// assert_eq!(kf::crc32c_singly(b"123456789"), 0xE306_9283);
+/// ```
+pub fn crc32c_singly(bytes: &[u8]) -> u32 {
+    // SAFETY: a slice of bytes, which the call reads.
+    unsafe { raw::kf_crc32c_singly(bytes.as_ptr(), bytes.len()) }
+}
+
+/// What a checked block says of itself.
+#[derive(Debug, Clone, Copy, PartialEq, Eq)]
+#[non_exhaustive]
+pub struct Header {
+    /// The records or entries that the block has.
+    pub numrecs: u16,
+    /// How many records or entries the block has room for.
+    pub maxrecs: usize,
+    /// The block that it names before it on its level, or [`NO_SIBLING`].
+    pub leftsib: u32,
+    /// The block that it names after it on its level, or [`NO_SIBLING`].
+    pub rightsib: u32,
+}
+
+/// Is it block `block` of the group's tree, at level `level`? Questions 1 to
+/// 10. The siblings are handed back and not asked about; [`walk_linked`] asks.
+///
+/// ```
+/// use kf::{check_block, Geometry, Kind, Values, NO_SIBLING};
+/// let g = Geometry::new(5, 512, 100, 0, [7; 16]);
+/// // A tree of no records is one block.
+/// let mut out = [0; 512];
+/// kf::build(&g, Kind::Rmap, &[], &[9], &mut out).unwrap();
+/// let header = check_block(&g, Kind::Rmap, 9, 0, &out).unwrap();
+/// assert_eq!((header.numrecs, header.maxrecs), (0, 19));
+/// // Alone on its level.
+/// assert_eq!((header.leftsib, header.rightsib), (NO_SIBLING, NO_SIBLING));
+/// // The same bytes are no block 8: the address is wrong.
+/// let refusal = check_block(&g, Kind::Rmap, 8, 0, &out).unwrap_err();
+/// assert_eq!(refusal.number, 8);
+/// assert_eq!(refusal.values, Some(Values::new(8, 9)));
+/// ```
+pub fn check_block(
+    g: &Geometry,
+    kind: Kind,
+    block: u32,
+    level: u16,
+    bytes: &[u8],
+) -> Result<Header, Refusal> {
+    let mut said = [0; 4];
+    let (high, low) = g.uuid_halves();
+    // SAFETY: a slice that the call reads, and four numbers that it writes.
+    let n = unsafe {
+        raw::kf_check_block(
+            g.version,
+            g.blocksize,
+            g.agblocks,
+            g.agno,
+            high,
+            low,
+            kind.number(),
+            block,
+            level,
+            bytes.as_ptr(),
+            bytes.len(),
+            &mut said,
+        )
+    };
+    let header = Header {
+        numrecs: said[0] as u16,
+        maxrecs: said[1] as usize,
+        leftsib: said[2] as u32,
+        rightsib: said[3] as u32,
+    };
+    answer(n, &said, header)
+}
+
+/// The blocks of a tree, by level.
+#[derive(Debug, Clone, Copy, PartialEq, Eq)]
+#[non_exhaustive]
+pub struct Plan {
+    blocks: [u64; 9],
+    levels: usize,
+    /// The blocks of all levels.
+    pub total: u64,
+}
+
+impl Plan {
+    /// The blocks of each level, leaves first.
+    pub fn levels(&self) -> &[u64] {
+        &self.blocks[..self.levels]
+    }
+}
+
+/// How many blocks each level of a tree of so many records has. Questions 1
+/// and 16.
+///
+/// ```
+/// use kf::{plan, Geometry, Kind};
+/// let g = Geometry::new(5, 4096, 0, 0, [0; 16]);
+/// let p = plan(&g, Kind::Rmap, 15_289).unwrap();
+/// assert_eq!(p.levels(), [92, 2, 1]);
+/// assert_eq!(p.total, 95);
+/// ```
+pub fn plan(g: &Geometry, kind: Kind, records: u64) -> Result<Plan, Refusal> {
+    let mut said = [0; 4];
+    let mut blocks = [0; 9];
+    let (high, low) = g.uuid_halves();
+    // SAFETY: nine and four numbers. The call writes the four, and the nine
+    // unless it refuses.
+    let n = unsafe {
+        raw::kf_plan(
+            g.version,
+            g.blocksize,
+            g.agblocks,
+            g.agno,
+            high,
+            low,
+            kind.number(),
+            records,
+            &mut blocks,
+            &mut said,
+        )
+    };
+    let plan = Plan {
+        blocks,
+        levels: said[0] as usize,
+        total: said[1],
+    };
+    answer(n, &said, plan)
+}
+
+/// What a build wrote.
+#[derive(Debug, Clone, Copy, PartialEq, Eq)]
+#[non_exhaustive]
+pub struct Built {
+    /// The number of blocks.
+    pub blocks: usize,
+    /// The bytes of them all.
+    pub bytes: usize,
+}
+
+/// Lays a list out afresh as a tree. `numbers` are the numbers in the group of
+/// the planned blocks, leaves first; the blocks stand one after another in
+/// `out`, root last. Each names the one before it on its level and the one
+/// after, [`NO_SIBLING`] at both ends. Questions 1, 3, 19, 20 or 21, 16, 17 and
+/// 18.
+///
+/// ```
+/// use kf::{build, Geometry, Kind, Rmap};
+/// let g = Geometry::new(5, 512, 100, 0, [7; 16]);
+/// let r = Rmap { startblock: 4, blockcount: 2, owner: 7, offset: 0 };
+/// let mut out = [0; 512];
+/// let built = build(&g, Kind::Rmap, &r.to_bytes(), &[9], &mut out).unwrap();
+/// assert_eq!((built.blocks, built.bytes), (1, 512));
+/// assert_eq!(out[56..80], r.to_bytes());
+/// // The one block of its level has no sibling.
+/// assert_eq!(out[8..16], [0xFF; 8]);
+/// assert_eq!(build(&g, Kind::Rmap, &r.to_bytes(), &[], &mut out).unwrap_err().number, 17);
+/// ```
+pub fn build(
+    g: &Geometry,
+    kind: Kind,
+    list: &[u8],
+    numbers: &[u32],
+    out: &mut [u8],
+) -> Result<Built, Refusal> {
+    let mut said = [0; 4];
+    let (high, low) = g.uuid_halves();
+    // SAFETY: two slices that the call reads, one that it writes, and four
+    // numbers that it writes.
+    let n = unsafe {
+        raw::kf_build(
+            g.version,
+            g.blocksize,
+            g.agblocks,
+            g.agno,
+            high,
+            low,
+            kind.number(),
+            list.as_ptr(),
+            list.len(),
+            numbers.as_ptr(),
+            numbers.len(),
+            out.as_mut_ptr(),
+            out.len(),
+            &mut said,
+        )
+    };
+    let built = Built {
+        blocks: said[0] as usize,
+        bytes: said[1] as usize,
+    };
+    answer(n, &said, built)
+}
+
+/// What a walk is lent: a stack of 2 × levels × node capacity places or more,
+/// as many places of scratch as the block list has, and the two lists.
+#[derive(Debug)]
+#[non_exhaustive]
+pub struct Lent<'a> {
+    /// The blocks that are due.
+    pub stack: &'a mut [u32],
+    /// The blocks visited, each with its level.
+    pub scratch: &'a mut [u64],
+    /// Gets the blocks by level, leaves first.
+    pub blocks: &'a mut [u32],
+    /// Gets the bytes of the records.
+    pub records: &'a mut [u8],
+}
+
+impl<'a> Lent<'a> {
+    /// The four, as given; the walk asks whether stack and scratch are long
+    /// enough (question 12).
+    pub fn new(
+        stack: &'a mut [u32],
+        scratch: &'a mut [u64],
+        blocks: &'a mut [u32],
+        records: &'a mut [u8],
+    ) -> Lent<'a> {
+        Lent {
+            stack,
+            scratch,
+            blocks,
+            records,
+        }
+    }
+}
+
+/// What a finished walk gave.
+#[derive(Debug, Clone, Copy, PartialEq, Eq)]
+#[non_exhaustive]
+pub struct Walked {
+    /// The blocks read, which is the length of the block list.
+    pub visits: usize,
+    /// The number of records.
+    pub records: usize,
+    /// The bytes of the records.
+    pub bytes: usize,
+}
+
+type WalkCall = unsafe extern "C" fn(
+    u16,
+    u32,
+    u32,
+    u32,
+    u64,
+    u64,
+    u32,
+    *const u8,
+    usize,
+    u32,
+    u32,
+    *mut u32,
+    usize,
+    *mut u64,
+    usize,
+    *mut u32,
+    usize,
+    *mut u8,
+    usize,
+    *mut [u64; 4],
+) -> u32;
+
+/// A walk by one of the two calls, with its fourth figure.
+fn walk_by(
+    f: WalkCall,
+    g: &Geometry,
+    kind: Kind,
+    image: &[u8],
+    root: u32,
+    levels: u32,
+    lent: Lent<'_>,
+) -> Result<(Walked, u64), WalkRefusal> {
+    let mut said = [0; 4];
+    let (high, low) = g.uuid_halves();
+    // SAFETY: a slice that the call reads, four that it writes, which do not
+    // overlap, and four numbers that it writes.
+    let n = unsafe {
+        f(
+            g.version,
+            g.blocksize,
+            g.agblocks,
+            g.agno,
+            high,
+            low,
+            kind.number(),
+            image.as_ptr(),
+            image.len(),
+            root,
+            levels,
+            lent.stack.as_mut_ptr(),
+            lent.stack.len(),
+            lent.scratch.as_mut_ptr(),
+            lent.scratch.len(),
+            lent.blocks.as_mut_ptr(),
+            lent.blocks.len(),
+            lent.records.as_mut_ptr(),
+            lent.records.len(),
+            &mut said,
+        )
+    };
+    let walked = Walked {
+        visits: said[0] as usize,
+        records: said[1] as usize,
+        bytes: said[2] as usize,
+    };
+    answer(n, &said, (walked, said[3])).map_err(|refusal| WalkRefusal::new(kind, refusal, said[2]))
+}
+
+/// Reads a tree of so many levels from its root. The image is the group, block
+/// n at n times the block size. Questions 1, 11 and 12, then at each block 13,
+/// 14, 3 to 10 and 15.
+///
+/// ```
+/// use kf::{build, walk, Geometry, Kind, Lent, Rmap};
+/// let g = Geometry::new(5, 512, 2, 0, [7; 16]);
+/// let list = Rmap { startblock: 4, blockcount: 2, owner: 7, offset: 0 }.to_bytes();
+/// let mut image = [0; 1024];
+/// build(&g, Kind::Rmap, &list, &[1], &mut image[512..]).unwrap();
+/// let (mut stack, mut scratch) = ([0; 20], [0; 4]);
+/// let (mut blocks, mut records) = ([0; 4], [0; 96]);
+/// let lent = Lent::new(&mut stack, &mut scratch, &mut blocks, &mut records);
+/// let walked = walk(&g, Kind::Rmap, &image, 1, 1, lent).unwrap();
+/// assert_eq!((walked.visits, walked.records, walked.bytes), (1, 1, 24));
+/// assert_eq!(blocks[0], 1);
+/// assert_eq!(records[..24], list);
+/// ```
+pub fn walk(
+    g: &Geometry,
+    kind: Kind,
+    image: &[u8],
+    root: u32,
+    levels: u32,
+    lent: Lent<'_>,
+) -> Result<Walked, WalkRefusal> {
+    walk_by(raw::kf_walk, g, kind, image, root, levels, lent).map(|(walked, _)| walked)
+}
+
+/// The same walk, which refuses and leaves what [`walk`] does, and is every
+/// level of the tree linked? A level is, where each of its blocks, in the order
+/// met, names the one before it and the one after, [`NO_SIBLING`] at both ends;
+/// a block met twice is judged at each meeting. The tree of a [`build`] is
+/// linked.
+///
+/// ```
+/// use kf::{build, plan, walk_linked, Geometry, Kind, Lent, Rmap};
+/// let g = Geometry::new(5, 512, 9, 0, [7; 16]);
+/// let list: Vec<u8> = (0..50)
+///     .flat_map(|i| Rmap { startblock: 8 * i, blockcount: 2, owner: 7, offset: 0 }.to_bytes())
+///     .collect();
+/// // Three leaves of up to 19 records, and the root.
+/// assert_eq!(plan(&g, Kind::Rmap, 50).unwrap().levels(), [3, 1]);
+/// let numbers: [u32; 4] = [5, 2, 8, 4];
+/// let mut built = [0; 4 * 512];
+/// build(&g, Kind::Rmap, &list, &numbers, &mut built).unwrap();
+/// // Store each block at its number.
+/// let mut image = [0; 9 * 512];
+/// for (n, block) in numbers.iter().zip(built.chunks(512)) {
+///     image[512 * *n as usize..][..512].copy_from_slice(block);
+/// }
+///
+/// let records_of = |image: &[u8]| {
+///     let (mut stack, mut scratch) = ([0; 40], [0; 4]);
+///     let (mut blocks, mut records) = ([0; 4], vec![0; 50 * 24]);
+///     let lent = Lent::new(&mut stack, &mut scratch, &mut blocks, &mut records);
+///     let (walked, linked) = walk_linked(&g, Kind::Rmap, image, 4, 2, lent).unwrap();
+///     assert_eq!((walked.visits, walked.records), (4, 50));
+///     (records, linked)
+/// };
+/// assert_eq!(records_of(&image), (list.clone(), true));
+///
+/// // The middle leaf names another block as the one after it, and its check is
+/// // put right again: the same records, no longer linked.
+/// let leaf = &mut image[2 * 512..][..512];
+/// leaf[12..16].copy_from_slice(&5u32.to_be_bytes());
+/// leaf[52..56].fill(0);
+/// let check = kf::crc32c(leaf);
+/// leaf[52..56].copy_from_slice(&check.to_le_bytes());
+/// assert_eq!(records_of(&image), (list, false));
+/// ```
+pub fn walk_linked(
+    g: &Geometry,
+    kind: Kind,
+    image: &[u8],
+    root: u32,
+    levels: u32,
+    lent: Lent<'_>,
+) -> Result<(Walked, bool), WalkRefusal> {
+    walk_by(raw::kf_walk_linked, g, kind, image, root, levels, lent)
+        .map(|(walked, linked)| (walked, linked == 1))
+}

@@ -1,0 +1,214 @@
+//! The layer over vectors, `kf::Group` and `kf::Tree`, beside the original with
+//! as much memory as it may want: the same lists, blocks and free extents, or
+//! the same refusal, which is never 12, 18 or 26.
+
+use crate::edits;
+use crate::held;
+use crate::lent::hex;
+use crate::library::Edit;
+use crate::links;
+use crate::tally::{differ, Tally};
+use crate::trees;
+use kf::{Group, Kind, Refusal, Root};
+use oracle::paper;
+use oracle::rmap::Rmap;
+use oracle::sample::Random;
+use oracle::{Geometry, Tree};
+
+const MOST: usize = usize::MAX;
+
+fn kind(tree: Tree) -> Kind {
+    match tree {
+        Tree::Rmap => Kind::Rmap,
+        Tree::Refcount => Kind::Refcount,
+    }
+}
+
+pub fn geometry(g: &Geometry) -> kf::Geometry {
+    kf::Geometry::new(
+        u16::try_from(g.version).expect("a version of 16 bits"),
+        u32::try_from(g.block_size).expect("a block size of 32 bits"),
+        g.agblocks,
+        g.agno,
+        g.meta_uuid,
+    )
+}
+
+pub fn extent(x: Rmap) -> kf::Rmap {
+    kf::Rmap {
+        startblock: x.startblock,
+        blockcount: x.blockcount,
+        owner: x.owner,
+        offset: x.offset,
+    }
+}
+
+/// What an edit of a group leaves: both lists and the bytes of the free extents.
+type Left = [Vec<u8>; 3];
+
+/// One edit of a group: what the layer makes of it, and what it is to come to.
+fn edited(
+    call: &'static str,
+    group: &Group,
+    got: Result<Left, Refusal>,
+    due: Result<Left, u32>,
+    x: Rmap,
+    tally: &mut Tally,
+) {
+    let got = got.map_err(|refusal| refusal.number);
+    let number = got.as_ref().err().copied().unwrap_or(0);
+    if got != due || number == 26 {
+        let (map, counts) = (hex(&group.map), hex(&group.counts));
+        differ(
+            call,
+            "result",
+            &format!("{got:02x?}"),
+            &format!("{due:02x?}"),
+            &format!("{x:?} map {map} counts {counts}"),
+        );
+    }
+    tally.add(call, number);
+}
+
+/// By the call `f` of the layer, which changes nothing where it refuses.
+fn by(
+    group: &Group,
+    f: impl FnOnce(&mut Group) -> Result<Vec<kf::FreeExtent>, Refusal>,
+) -> Result<Left, Refusal> {
+    let mut new = group.clone();
+    match f(&mut new) {
+        Ok(free) => {
+            let free = free.iter().flat_map(|x| x.to_bytes()).collect();
+            Ok([new.map, new.counts, free])
+        }
+        Err(refusal) => {
+            assert!(new == *group, "a refusal changed the group: {refusal}");
+            Err(refusal)
+        }
+    }
+}
+
+/// Notes whether a list took all of the room that it had.
+fn room(what: &'static str, taken: usize, had: usize, tally: &mut Tally) {
+    assert!(taken <= had, "{what}: {taken} of {had}");
+    tally.note(what, if taken == had { "taken" } else { "not taken" });
+}
+
+const ROOMS: [&str; 4] = [
+    "vectors, all room of a new map",
+    "vectors, all room of lowered counts",
+    "vectors, all room of raised counts",
+    "vectors, all room of free extents",
+];
+
+fn edits_of(map: Vec<u8>, counts: Vec<u8>, x: Rmap, tally: &mut Tally) {
+    let group = Group::new(map, counts);
+    let (map, counts, y) = (&group.map, &group.counts, &extent(x));
+    let met = group
+        .refcounts()
+        .filter(|r| !r.is_staging() && u64::from(r.block()) < y.end())
+        .filter(|r| u64::from(y.startblock) < r.end())
+        .count();
+
+    let took = by(&group, |g| g.take(y).map(|()| vec![]));
+    let due = edits::due(Edit::Insert, map, x, MOST);
+    let due = match due.number() {
+        Some(n) => Err(n.into()),
+        None => Ok([due.accepted().expect("a map"), counts.clone(), vec![]]),
+    };
+    edited("Group::take", &group, took, due, x, tally);
+
+    let held = by(&group, |g| g.take_held(y).map(|()| vec![]));
+    if let Ok([_, raised, _]) = &held {
+        room(ROOMS[2], raised.len(), counts.len() + (met + 1) * 12, tally);
+    }
+    let due = held::due(map, counts, x, [MOST; 2]).map(|[map, counts]| [map, counts, vec![]]);
+    edited("Group::take_held", &group, held, due, x, tally);
+
+    let gone = by(&group, |g| g.let_go(y));
+    if let Ok([left, lowered, free]) = &gone {
+        room(ROOMS[0], left.len(), map.len() + 24, tally);
+        room(ROOMS[1], lowered.len(), counts.len() + 24, tally);
+        room(ROOMS[3], free.len(), (met + 1) * 8, tally);
+    }
+    let due = paper::let_go(map, counts, x, MOST, MOST, MOST);
+    let due = match due.number() {
+        Some(n) => Err(n.into()),
+        None => {
+            let v = due.accepted().expect("both lists");
+            Ok([v.rmap, v.released.counts, v.released.free])
+        }
+    };
+    edited("Group::let_go", &group, gone, due, x, tally);
+}
+
+fn build(r: &mut Random, tally: &mut Tally) {
+    let (g, tree, list, numbers, _) = trees::to_build(r);
+    let mut group = Group::default();
+    match tree {
+        Tree::Rmap => group.map = list.clone(),
+        Tree::Refcount => group.counts = list.clone(),
+    }
+    let got = group.build(&geometry(&g), kind(tree), &numbers);
+    let got = got.map_err(|refusal| refusal.number);
+    let due = links::build(&g, tree, &list, &numbers, MOST);
+    let due = match due.number() {
+        Some(n) => Err(n.into()),
+        None => Ok(due.accepted().expect("blocks")),
+    };
+    if got != due {
+        let input = format!("{g:?} {tree:?} numbers {numbers:?} list {}", hex(&list));
+        let say = |o: &Result<Vec<u8>, u32>| format!("{o:02x?}");
+        differ("Group::build", "result", &say(&got), &say(&due), &input);
+    }
+    tally.add("Group::build", got.err().unwrap_or(0));
+}
+
+fn walk(r: &mut Random, tally: &mut Tally) {
+    let w = trees::small_walk(r);
+    // What the layer has room for.
+    let size = w.g.block_size as usize;
+    let limit = w.g.agblocks.max(64) as usize;
+    let most = w.blocks.min(limit).min(w.image.len() / size);
+    let lent = paper::Lent {
+        record_bytes: most * size,
+        block_places: most,
+        ..paper::Lent::PLENTY
+    };
+    let due = paper::walk_blocks(&w.g, w.tree, &w.image, w.root, w.levels, &lent);
+    let due = match due.outcome.number() {
+        Some(n) => Err((u32::from(n), due.visits)),
+        None => {
+            let v = due.outcome.accepted().expect("a walk");
+            let linked = links::linked(&w.g, &w.image, &v.blocks);
+            Ok((v.blocks, v.records, linked))
+        }
+    };
+    let root = Root::new(w.root, w.levels, w.blocks);
+    let got = kf::Tree::walk(&geometry(&w.g), kind(w.tree), &w.image, root)
+        .map(|t| (t.blocks, t.records, t.linked))
+        .map_err(|refused| (refused.refusal.number, refused.visits));
+    if got != due {
+        let (say, image) = (format!("{got:02x?}"), hex(&w.image));
+        let input = format!(
+            "{:?} {:?} root {} levels {} blocks {} image {image}",
+            w.g, w.tree, w.root, w.levels, w.blocks
+        );
+        differ("Tree::walk", "result", &say, &format!("{due:02x?}"), &input);
+    }
+    tally.add("Tree::walk", got.err().map_or(0, |(n, _)| n));
+}
+
+pub fn vectors(r: &mut Random, scale: u64, tally: &mut Tally) {
+    for _ in 0..200_000 * scale {
+        let (map, counts, x, _) = held::take(r);
+        edits_of(map, counts, x, tally);
+    }
+    for what in ROOMS {
+        tally.met_both(what);
+    }
+    for _ in 0..5_000 * scale {
+        build(r, tally);
+        walk(r, tally);
+    }
+}
