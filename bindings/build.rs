@@ -1,5 +1,6 @@
 //! Says where the two archives of the library are: in the folder that
-//! KF_LIB_DIR names, else where `rt staticlib` puts them.
+//! KF_LIB_DIR names (where it is not absolute, from this folder), else where
+//! `rt staticlib` puts them.
 
 use std::env;
 use std::path::PathBuf;
@@ -7,6 +8,12 @@ use std::process::exit;
 
 fn main() {
     println!("cargo:rerun-if-env-changed=KF_LIB_DIR");
+    let target = |what: &str| env::var(format!("CARGO_CFG_TARGET_{what}")).unwrap_or_default();
+    if target("ARCH") != "x86_64" || target("FAMILY") != "unix" {
+        eprintln!("The static library is compiled for x86-64 with the calling convention of");
+        eprintln!("System V; there is none for another target.");
+        exit(1);
+    }
     let here = PathBuf::from(env::var_os("CARGO_MANIFEST_DIR").expect("cargo sets it"));
     let dir = match env::var_os("KF_LIB_DIR") {
         Some(d) => here.join(d),

@@ -29,9 +29,10 @@
  * What is proved. Each function of the two archives, on every input, where the duties are kept: it returns, reads and writes nothing but what
  * it is given, and answers and writes what its contract says (`ensures` in crates/tree_calls/src and crates/list_calls/src).
  * What is not. That this header declares those functions: it is trusted for names, parameters, constants and words. bindings/tests/interface.rs
- * holds names, parameters and constants against the Rattle source and the Rust declarations; nothing but reading holds the words. That a C
- * compiler passes parameters as the Rattle back end takes them, which is the calling convention of x86-64 System V. That a caller keeps its
- * duties. */
+ * holds names and parameters against the Rattle source and the Rust declarations, constants against the Rust crate, and the numbers of the
+ * questions against docs/QUESTIONS.md and the Rattle source; nothing but reading holds the words. That a C compiler passes parameters as the
+ * Rattle back end takes them, which is the calling convention of x86-64 System V. That a caller keeps its duties, and that the two lists of a
+ * group agree: what a let go says is free goes by the shared counts, and no call asks whether they agree with the reverse map. */
 #ifndef KF_H
 #define KF_H
 
@@ -45,7 +46,7 @@ extern "C" {
 #define KF_GEOMETRY \
     uint16_t version, uint32_t blocksize, uint32_t agblocks, uint32_t agno, uint64_t uuid_high, uint64_t uuid_low
 
-/* The two kinds of tree. Any other number is taken for KF_KIND_REFCOUNT. */
+/* The kinds of tree. Pass no other: today any other number is taken for KF_KIND_REFCOUNT, and the next kinds of tree will get 2 and up. */
 #define KF_KIND_RMAP 0u
 #define KF_KIND_REFCOUNT 1u
 
@@ -169,10 +170,13 @@ uint32_t kf_walk_linked(KF_GEOMETRY, uint32_t kind, const uint8_t *image, size_t
                         uint32_t *blocks, size_t blocks_len, uint8_t *records, size_t records_len, uint64_t said[KF_FIGURES]);
 
 /* The edits below read the old lists and write new ones beside them. A refusal leaves what was lent for these as it was, and what lies past a
- * new list stays. Room with which 26 is never the answer, in records: for a new reverse map one more than the old one has; for the new counts
- * of kf_release and kf_let_go two more than the old ones have; for those of kf_take_held two more and one for each longest run of the extent's
- * blocks that no shared record lies over, or one more than the shared records that overlap the extent, whichever is less; for free extents one
- * more than the shared records that overlap the extent. That is proved (crates/groups/specs/Room.antt). */
+ * new list stays. 26 is never the answer with room for
+ *   - the records of the old reverse map, and 1 more;
+ *   - in kf_release and kf_let_go the records of the old counts, and 2 more;
+ *   - in kf_take_held the records of the old counts, and as many more as the lesser of 2 + gaps and 1 + met: met are the shared records that have
+ *     a block in common with the extent, gaps the longest runs of its blocks that none of them lies over;
+ *   - 1 + met free extents.
+ * That is proved (crates/groups/specs/Room.antt). */
 
 /* A first take: an extent of which no block is held goes into the reverse map `old`, and the new one to `new_map` (19, 20, 22, 23, 26).
  * said: bytes of the new reverse map, 0, 0, 0; refused: zeros. */
@@ -187,17 +191,20 @@ uint32_t kf_insert_shared(const uint8_t *old, size_t old_len, uint32_t startbloc
                           uint8_t *new_map, size_t new_map_len, uint64_t said[KF_FIGURES]);
 
 /* A removal: an extent that a record of its owner and flags contains leaves the reverse map `old`, and the new one goes to `new_map` (19, 20,
- * 22, 24, 26). It leaves the shared counts alone: kf_let_go is the whole letting go.
+ * 22, 24, 26). The file offset is not asked about: it chooses where several records contain the extent. It leaves the shared counts alone:
+ * kf_let_go is the whole letting go.
  * said: bytes of the new reverse map, 0, 0, 0; refused: zeros. */
 uint32_t kf_remove(const uint8_t *old, size_t old_len, uint32_t startblock, uint32_t blockcount, uint64_t owner, uint64_t offset,
                    uint8_t *new_map, size_t new_map_len, uint64_t said[KF_FIGURES]);
 
-/* Counts lowered by one over an extent, and its blocks that are free again (19, 21, 22, 25, 26).
+/* Owners lowered by one over an extent, and its blocks that no shared record lay over (19, 21, 22, 25, 26).
  * said: bytes of the new counts, bytes of the free extents, 0, 0; refused: zeros. */
 uint32_t kf_release(const uint8_t *counts, size_t counts_len, uint32_t startblock, uint32_t blockcount,
                     uint8_t *new_counts, size_t new_counts_len, uint8_t *free_extents, size_t free_extents_len, uint64_t said[KF_FIGURES]);
 
-/* The whole letting go: both lists at once (19, 20, 22, 24, then 19, 21, 25, then 26).
+/* The whole letting go: both lists at once, and the blocks of the extent that no shared record lay over (19, 20, 22, 24, then 19, 21, 25, then
+ * 26). Where the counts agree with the reverse map, nobody holds these any more. The file offset is not asked about: it chooses where several
+ * records contain the extent.
  * said: bytes of the new reverse map, of the new counts and of the free extents, 0; refused: zeros. */
 uint32_t kf_let_go(const uint8_t *map, size_t map_len, const uint8_t *counts, size_t counts_len,
                    uint32_t startblock, uint32_t blockcount, uint64_t owner, uint64_t offset,

@@ -1,5 +1,6 @@
-//! `all_groups CASE...`: walks both trees of each group, one case file a group,
-//! on all cores, and prints a line for each, in the order given.
+//! `all_groups CASE...`: walks both trees of each group of a volume, one case
+//! file a group, on all cores, and prints a line for each, in the order given.
+//! (The two in `data` are of two volumes: each group has its geometry with it.)
 //!
 //! The walks are the proved library's; the threads are this program's.
 

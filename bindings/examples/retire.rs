@@ -3,11 +3,12 @@
 //! of the image and walks them back. The case file is left as it is.
 //!
 //! Walks, edits, plans and builds are the proved library's. Which extents go,
-//! which blocks the trees get and that they are stored there is this program's.
+//! that none of the free blocks is held, which blocks the trees get and that
+//! they are stored there is this program's.
 
-use kf::{FreeExtent, Group, Kind, Rmap, Root, Tree};
+use kf::{FreeExtent, Geometry, Group, Kind, Rmap, Root, Tree};
 use std::error::Error;
-use std::io::Write;
+use std::io::{self, Write};
 use std::process::ExitCode;
 use std::time::{Duration, Instant};
 
@@ -15,51 +16,76 @@ mod case;
 use case::Case;
 
 fn main() -> ExitCode {
-    case::main("retire CASE OWNER", 2..=2, run)
+    case::main("retire CASE OWNER", 2..=2, |args, out| {
+        retire(args, out, Progress::every(Duration::from_secs(1)))
+    })
 }
 
-fn run(args: &[String], out: &mut dyn Write) -> Result<(), Box<dyn Error>> {
-    let case = Case::read(&args[0])?;
+/// Says how far it is, once in a while, beside what is printed.
+struct Progress {
+    every: Duration,
+    last: Instant,
+    out: Box<dyn Write>,
+}
+
+impl Progress {
+    fn every(every: Duration) -> Progress {
+        Progress {
+            every,
+            last: Instant::now(),
+            out: Box::new(io::stderr()),
+        }
+    }
+
+    fn say(&mut self, what: std::fmt::Arguments) -> io::Result<()> {
+        if self.last.elapsed() >= self.every {
+            writeln!(self.out, "{what}")?;
+            self.last = Instant::now();
+        }
+        Ok(())
+    }
+}
+
+fn retire(
+    args: &[String],
+    out: &mut dyn Write,
+    mut progress: Progress,
+) -> Result<(), Box<dyn Error>> {
     let owner: i64 = args[1]
         .parse()
         .map_err(|e| format!("owner `{}`: {e}", args[1]))?;
+    if owner < 0 {
+        return Err("an owner below 0 is reserved: the group's own blocks are no release".into());
+    }
+    let case = Case::read(&args[0])?;
 
     // Group::walk would give the two lists; the blocks of the old trees are
     // wanted too.
     let (g, image) = (&case.geometry, &case.image);
+    progress.say(format_args!("walking the old trees"))?;
     let old_map = Tree::walk(g, Kind::Rmap, image, case.root(Kind::Rmap)?)?;
     let old_counts = Tree::walk(g, Kind::Refcount, image, case.root(Kind::Refcount)?)?;
     let mut group = Group::new(old_map.records, old_counts.records);
 
-    let free = let_all_go(&mut group, owner, out)?;
+    let gone = let_all_go(&mut group, owner, out, &mut progress)?;
+    if let Some((free, r)) = held(&group, &gone.free) {
+        let (x, y) = (free.startblock, free.blockcount);
+        return Err(format!(
+            "the shared counts do not agree with the reverse map: {x}/{y} would be free, \
+             and owner {} holds {}/{}",
+            r.owner, r.startblock, r.blockcount
+        )
+        .into());
+    }
 
-    // The fresh trees go where the old ones lay. Should one need more blocks
-    // than its old one has, blocks that are free again are used; a tool that
-    // writes volumes takes these for the tree's owner and maps them first.
+    progress.say(format_args!("building both trees"))?;
     let old = [
         (Kind::Rmap, old_map.blocks),
         (Kind::Refcount, old_counts.blocks),
     ];
-    let mut spare = free
-        .iter()
-        .flat_map(|x| x.startblock..x.startblock + x.blockcount)
-        .filter(|n| old.iter().all(|(_, blocks)| !blocks.contains(n)));
-    let mut copy = image.clone();
-    let mut roots = Vec::new();
-    for (kind, blocks) in &old {
-        let plan = group.plan(g, *kind)?;
-        let numbers = numbers(plan.total.try_into()?, blocks, &mut spare)
-            .map_err(|e| format!("{kind}: {e}"))?;
-        let built = group.build(g, *kind, &numbers)?;
-        store(&mut copy, g.blocksize as usize, &numbers, &built);
-        // Leaves first, root last.
-        let &root = numbers.last().ok_or("a tree of no blocks")?;
-        let levels = plan.levels().len().try_into()?;
-        roots.push(Root::new(root, levels, numbers.len()));
-        let (now, before) = (numbers.len(), blocks.len());
-        writeln!(out, "{kind}: built in blocks {now}, before {before}")?;
-    }
+    let (copy, roots) = build_both(g, image, &group, &old, &gone.free, out)?;
 
+    progress.say(format_args!("walking the fresh trees"))?;
     if Group::walk(g, &copy, roots[0], roots[1])? != group {
         return Err("the walks returned other lists than were built".into());
     }
@@ -68,7 +94,16 @@ fn run(args: &[String], out: &mut dyn Write) -> Result<(), Box<dyn Error>> {
         out,
         "walked back the same: reverse map {map} records, shared counts {counts} records"
     )?;
-    Ok(())
+    match gone.refused {
+        0 => Ok(()),
+        n => Err(format!("{n} extents of the owner stayed").into()),
+    }
+}
+
+/// What came of letting all extents of an owner go.
+struct Gone {
+    free: Vec<FreeExtent>,
+    refused: usize,
 }
 
 /// Lets all extents of an owner go, one after another, and prints each. A
@@ -77,43 +112,99 @@ fn let_all_go(
     group: &mut Group,
     owner: i64,
     out: &mut dyn Write,
-) -> Result<Vec<FreeExtent>, Box<dyn Error>> {
+    progress: &mut Progress,
+) -> Result<Gone, Box<dyn Error>> {
     let extents: Vec<Rmap> = group.rmaps().filter(|r| r.owner == owner).collect();
-    let mut all_free = Vec::new();
-    let mut refused = 0;
-    let mut last = Instant::now();
+    let mut gone = Gone {
+        free: Vec::new(),
+        refused: 0,
+    };
     for (i, x) in extents.iter().enumerate() {
-        if last.elapsed() >= Duration::from_secs(1) {
-            eprintln!("{} of {} extents let go", i - refused, extents.len());
-            last = Instant::now();
-        }
+        let (done, all) = (i - gone.refused, extents.len());
+        progress.say(format_args!("{done} of {all} extents let go"))?;
         write!(out, "{}/{}: ", x.startblock, x.blockcount)?;
         match group.let_go(x) {
             Ok(free) => {
-                if free.is_empty() {
-                    write!(out, "all blocks still held")?;
+                let said = if free.is_empty() {
+                    "all blocks still held"
                 } else {
-                    write!(out, "free")?;
-                }
+                    "free"
+                };
+                write!(out, "{said}")?;
                 for f in &free {
                     write!(out, " {}/{}", f.startblock, f.blockcount)?;
                 }
                 writeln!(out)?;
-                all_free.extend(free);
+                gone.free.extend(free);
             }
             Err(refusal) => {
                 writeln!(out, "{refusal}")?;
-                refused += 1;
+                gone.refused += 1;
             }
         }
     }
-    let gone = extents.len() - refused;
-    let blocks: u64 = all_free.iter().map(|f| u64::from(f.blockcount)).sum();
+    let (done, refused) = (extents.len() - gone.refused, gone.refused);
+    let blocks: u64 = gone.free.iter().map(|f| u64::from(f.blockcount)).sum();
     writeln!(
         out,
-        "extents let go {gone}, refused {refused}; blocks free again {blocks}"
+        "extents let go {done}, refused {refused}; blocks free again {blocks}"
     )?;
-    Ok(all_free)
+    Ok(gone)
+}
+
+/// A free extent of which a block is held, and a record that holds it. What is
+/// free goes by the shared counts, and no call asks whether they agree with the
+/// reverse map; a block that is held must not be given to another.
+fn held(group: &Group, free: &[FreeExtent]) -> Option<(FreeExtent, Rmap)> {
+    let mut free = free.to_vec();
+    free.sort_by_key(|x| x.startblock);
+    group.rmaps().find_map(|r| {
+        // They do not overlap one another: the first that ends behind the start
+        // of the record is the first that can meet it.
+        let i = free.partition_point(|x| x.end() <= u64::from(r.startblock));
+        let x = *free.get(i)?;
+        (u64::from(x.startblock) < r.end()).then_some((x, r))
+    })
+}
+
+/// Builds both trees in a copy of the image, and says where they begin.
+///
+/// They go where the old ones lay. Should one need more blocks than its old one
+/// has, blocks that are free again are used. A tool that writes volumes maps
+/// these to the tree's owner first, gives the old blocks that are left over back
+/// to the group, and plans again, since both change the reverse map.
+fn build_both(
+    g: &Geometry,
+    image: &[u8],
+    group: &Group,
+    old: &[(Kind, Vec<u32>); 2],
+    free: &[FreeExtent],
+    out: &mut dyn Write,
+) -> Result<(Vec<u8>, [Root; 2]), Box<dyn Error>> {
+    let in_old = |n: &u32| old.iter().any(|(_, blocks)| blocks.contains(n));
+    let mut spare = free
+        .iter()
+        .flat_map(|x| x.startblock..x.startblock + x.blockcount)
+        .filter(|n| *n < g.agblocks && !in_old(n));
+    let mut copy = image.to_vec();
+    let mut build = |kind: Kind, blocks: &[u32]| -> Result<Root, Box<dyn Error>> {
+        let plan = group.plan(g, kind)?;
+        let numbers = numbers(plan.total.try_into()?, blocks, &mut spare)
+            .map_err(|e| format!("{kind}: {e}"))?;
+        let built = group.build(g, kind, &numbers)?;
+        store(&mut copy, g.blocksize as usize, &numbers, &built)?;
+        let (now, before) = (numbers.len(), blocks.len());
+        let left = before.saturating_sub(now);
+        writeln!(
+            out,
+            "{kind}: built in blocks {now}, before {before}, left over {left}"
+        )?;
+        let root = plan.root(&numbers).ok_or("other numbers than planned")?;
+        Ok(root)
+    };
+    let map = build(old[0].0, &old[0].1)?;
+    let counts = build(old[1].0, &old[1].1)?;
+    Ok((copy, [map, counts]))
 }
 
 /// So many block numbers: the old tree's, then spare ones.
@@ -130,25 +221,36 @@ fn numbers(
 }
 
 /// Stores built blocks at their numbers.
-fn store(image: &mut Vec<u8>, size: usize, numbers: &[u32], built: &[u8]) {
+fn store(image: &mut Vec<u8>, size: usize, numbers: &[u32], built: &[u8]) -> Result<(), String> {
     for (&n, block) in numbers.iter().zip(built.chunks_exact(size)) {
         let at = n as usize * size;
         if image.len() < at + size {
+            let more = at + size - image.len();
+            let none = |_| format!("block {n}: no memory for an image as long as that");
+            image.try_reserve(more).map_err(none)?;
             image.resize(at + size, 0);
         }
         image[at..at + size].copy_from_slice(block);
     }
+    Ok(())
 }
 
 #[cfg(test)]
 mod tests {
     use super::*;
     use kf::Refcount;
+    use std::sync::{Arc, Mutex};
+
+    const SMALL: &str = concat!(env!("CARGO_MANIFEST_DIR"), "/data/v5-1024-small.case");
+
+    fn seldom() -> Progress {
+        Progress::every(Duration::from_secs(3600))
+    }
 
     fn printed(case: &str, owner: &str) -> Vec<String> {
         let case = format!("{}/data/{case}", env!("CARGO_MANIFEST_DIR"));
         let mut out = Vec::new();
-        run(&[case, owner.to_string()], &mut out).unwrap();
+        retire(&[case, owner.to_string()], &mut out, seldom()).unwrap();
         let out = String::from_utf8(out).unwrap();
         out.lines().map(String::from).collect()
     }
@@ -165,8 +267,8 @@ mod tests {
             lines[31..],
             [
                 "extents let go 31, refused 0; blocks free again 1",
-                "reverse map: built in blocks 3, before 4",
-                "shared counts: built in blocks 1, before 1",
+                "reverse map: built in blocks 3, before 4, left over 1",
+                "shared counts: built in blocks 1, before 1, left over 0",
                 "walked back the same: reverse map 59 records, shared counts 6 records",
             ]
         );
@@ -191,8 +293,8 @@ mod tests {
             lines[707..],
             [
                 "extents let go 707, refused 0; blocks free again 7",
-                "reverse map: built in blocks 13, before 25",
-                "shared counts: built in blocks 1, before 7",
+                "reverse map: built in blocks 13, before 25, left over 12",
+                "shared counts: built in blocks 1, before 7, left over 6",
                 "walked back the same: reverse map 923 records, shared counts 140 records",
             ]
         );
@@ -226,8 +328,8 @@ mod tests {
         let map = [a.to_bytes(), b.to_bytes()].concat();
         let mut group = Group::new(map, staging.to_bytes().to_vec());
         let mut out = Vec::new();
-        let free = let_all_go(&mut group, 131, &mut out).unwrap();
-        assert_eq!(free.len(), 1);
+        let gone = let_all_go(&mut group, 131, &mut out, &mut seldom()).unwrap();
+        assert_eq!((gone.free.len(), gone.refused), (1, 1));
         assert!(group.rmaps().eq([a]));
         assert_eq!(
             String::from_utf8(out).unwrap(),
@@ -248,10 +350,142 @@ mod tests {
         );
     }
 
+    /// The counts do not tell that another holds 4/2 too.
+    #[test]
+    fn a_held_block_is_not_free() {
+        let a = Rmap {
+            startblock: 4,
+            blockcount: 2,
+            owner: 131,
+            offset: 0,
+        };
+        let b = Rmap { owner: 132, ..a };
+        let map = [a.to_bytes(), b.to_bytes()].concat();
+        let mut group = Group::new(map, vec![]);
+        let gone = let_all_go(&mut group, 131, &mut Vec::new(), &mut seldom()).unwrap();
+        let x = FreeExtent {
+            startblock: 4,
+            blockcount: 2,
+        };
+        assert_eq!(gone.free, [x]);
+        assert_eq!(held(&group, &gone.free), Some((x, b)));
+        assert_eq!(held(&Group::default(), &gone.free), None);
+        // Free extents on both sides of a record, and one that it ends in.
+        let at = |startblock, blockcount| FreeExtent {
+            startblock,
+            blockcount,
+        };
+        assert_eq!(held(&group, &[at(6, 9), at(0, 4)]), None);
+        assert_eq!(held(&group, &[at(7, 9), at(5, 1)]), Some((at(5, 1), b)));
+    }
+
+    /// The whole of it on a group whose lists do not agree: the count over the
+    /// first shared block is gone.
+    #[test]
+    fn lists_that_do_not_agree() {
+        let case = Case::read(SMALL).unwrap();
+        let root = case.root(Kind::Refcount).unwrap();
+        let tree = Tree::walk(&case.geometry, Kind::Refcount, &case.image, root).unwrap();
+        let fewer = Group::new(vec![], tree.records[12..].to_vec());
+        let built = fewer
+            .build(&case.geometry, Kind::Refcount, &tree.blocks)
+            .unwrap();
+        let hex: String = built.iter().map(|b| format!("{b:02x}")).collect();
+        let text = std::fs::read_to_string(SMALL).unwrap();
+        let lines: Vec<String> = text
+            .lines()
+            .map(
+                |line| match line.split_whitespace().collect::<Vec<_>>()[..] {
+                    ["block", n, _] if n == tree.blocks[0].to_string() => {
+                        format!("block {n} {hex}")
+                    }
+                    _ => line.to_string(),
+                },
+            )
+            .collect();
+        let file = std::env::temp_dir().join(format!("kf-{}.case", std::process::id()));
+        std::fs::write(&file, lines.join("\n")).unwrap();
+        let args = [file.display().to_string(), "81986".to_string()];
+        let error = retire(&args, &mut Vec::new(), seldom()).unwrap_err();
+        std::fs::remove_file(&file).unwrap();
+        assert_eq!(
+            error.to_string(),
+            "the shared counts do not agree with the reverse map: 8256/1 would be free, \
+             and owner 81985 holds 8256/60"
+        );
+    }
+
+    /// The trees get blocks of the group only.
+    #[test]
+    fn blocks_past_the_group() {
+        let g = Geometry::new(5, 512, 40, 0, [7; 16]);
+        // More records than one leaf holds, so that three blocks are wanted.
+        let records = (0..30).flat_map(|i| {
+            let r = Rmap {
+                startblock: 8 * i,
+                blockcount: 2,
+                owner: 131,
+                offset: 0,
+            };
+            r.to_bytes()
+        });
+        let group = Group::new(records.collect(), vec![]);
+        let old = [(Kind::Rmap, vec![5]), (Kind::Refcount, vec![6])];
+        let at = |startblock, blockcount| FreeExtent {
+            startblock,
+            blockcount,
+        };
+        let mut out = Vec::new();
+        let free = [at(5, 3), at(39, 9)];
+        let (image, roots) = build_both(&g, &[], &group, &old, &free, &mut out).unwrap();
+        assert_eq!(image.len(), 40 * 512);
+        assert_eq!(roots, [Root::new(39, 2, 3), Root::new(6, 1, 1)]);
+        assert_eq!(
+            Group::walk(&g, &image, roots[0], roots[1]),
+            Ok(group.clone())
+        );
+        let free = [at(2147483640, 4)];
+        let error = build_both(&g, &[], &group, &old, &free, &mut out).unwrap_err();
+        assert_eq!(
+            error.to_string(),
+            "reverse map: 3 blocks are needed, 1 are there"
+        );
+    }
+
+    #[test]
+    fn progress() {
+        #[derive(Clone, Default)]
+        struct Shared(Arc<Mutex<Vec<u8>>>);
+        impl Write for Shared {
+            fn write(&mut self, bytes: &[u8]) -> io::Result<usize> {
+                self.0.lock().unwrap().write(bytes)
+            }
+            fn flush(&mut self) -> io::Result<()> {
+                Ok(())
+            }
+        }
+        let said = Shared::default();
+        let always = Progress {
+            out: Box::new(said.clone()),
+            ..Progress::every(Duration::ZERO)
+        };
+        retire(&[SMALL, "81986"].map(String::from), &mut Vec::new(), always).unwrap();
+        let said = String::from_utf8(said.0.lock().unwrap().clone()).unwrap();
+        let lines: Vec<&str> = said.lines().collect();
+        assert_eq!(lines.len(), 31 + 3);
+        assert_eq!(lines[0], "walking the old trees");
+        assert_eq!(lines[31], "30 of 31 extents let go");
+        assert_eq!(lines[33], "walking the fresh trees");
+    }
+
     #[test]
     fn no_owner() {
-        let case = concat!(env!("CARGO_MANIFEST_DIR"), "/data/v5-1024-small.case");
-        let error = run(&[case, "none"].map(String::from), &mut Vec::new()).unwrap_err();
-        assert!(error.to_string().starts_with("owner `none`: "));
+        let error = |owner: &str| {
+            let args = [SMALL, owner].map(String::from);
+            let error = retire(&args, &mut Vec::new(), seldom()).unwrap_err();
+            error.to_string()
+        };
+        assert!(error("none").starts_with("owner `none`: "));
+        assert!(error("-5").starts_with("an owner below 0 is reserved"));
     }
 }

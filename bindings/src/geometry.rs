@@ -26,7 +26,8 @@ pub struct Geometry {
 }
 
 impl Geometry {
-    /// A geometry as given; the calls ask whether it is valid (question 1).
+    /// A geometry as given; the calls ask whether it is valid (question 1). What a
+    /// later version may know of a volume besides will come by a `with_..`.
     pub const fn new(
         version: u16,
         blocksize: u32,
@@ -43,6 +44,23 @@ impl Geometry {
         }
     }
 
+    /// The same volume, another group.
+    ///
+    /// ```
+    /// let g = kf::Geometry::new(5, 4096, 1 << 20, 0, [7; 16]);
+    /// assert_eq!(g.with_agno(3), kf::Geometry::new(5, 4096, 1 << 20, 3, [7; 16]));
+    /// ```
+    pub const fn with_agno(mut self, agno: u32) -> Geometry {
+        self.agno = agno;
+        self
+    }
+
+    /// Does question 1 accept the block size? Any other is refused before lent
+    /// memory is asked about, so that none has to be taken for it.
+    pub(crate) fn has_blocksize(&self) -> bool {
+        self.blocksize.is_power_of_two() && (512..=65_536).contains(&self.blocksize)
+    }
+
     /// The UUID as the interface takes it: two big-endian numbers.
     pub(crate) fn uuid_halves(&self) -> (u64, u64) {
         let n = u128::from_be_bytes(self.meta_uuid);
@@ -50,7 +68,7 @@ impl Geometry {
     }
 }
 
-/// Which of the two trees of a group.
+/// Which tree of a group.
 #[derive(Debug, Clone, Copy, PartialEq, Eq, Hash)]
 #[non_exhaustive]
 pub enum Kind {

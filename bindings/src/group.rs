@@ -7,7 +7,7 @@
 
 use crate::geometry::{Geometry, Kind};
 use crate::lent::{self, Lent, NewLists, Plan};
-use crate::question::{Refusal, WalkRefusal};
+use crate::question::{Question, Refusal, WalkRefusal};
 use crate::records::{
     free_extents, refcounts, rmaps, FreeExtent, Records, Refcount, Rmap, FREE_EXTENT, REFCOUNT,
     RMAP,
@@ -30,7 +30,7 @@ pub struct Root {
     pub levels: u32,
     /// The most blocks that the tree may have (`agf_rmap_blocks`,
     /// `agf_refcount_blocks`).
-    pub blocks: usize,
+    pub blocks: u32,
 }
 
 impl Root {
@@ -40,7 +40,7 @@ impl Root {
     /// let root = kf::Root::new(8, 2, 25);
     /// assert_eq!((root.root, root.levels, root.blocks), (8, 2, 25));
     /// ```
-    pub const fn new(root: u32, levels: u32, blocks: usize) -> Root {
+    pub const fn new(root: u32, levels: u32, blocks: u32) -> Root {
         Root {
             root,
             levels,
@@ -49,22 +49,9 @@ impl Root {
     }
 }
 
-/// Does question 1 accept the block size? Any other is refused before lent
-/// memory is asked about, so that none has to be taken for it.
-fn blocksize_is_valid(g: &Geometry) -> bool {
-    g.blocksize.is_power_of_two() && (512..=65_536).contains(&g.blocksize)
-}
-
-/// The places that a walk's stack has to have: twice the levels, times the
-/// entries that a node has room for. More than nine levels are refused.
-fn stack_places(g: &Geometry, kind: Kind, levels: u32) -> usize {
-    let header = if g.version == 5 { 56 } else { 16 };
-    let entry = match kind {
-        Kind::Rmap => 44,
-        Kind::Refcount => 8,
-    };
-    2 * levels.min(9) as usize * ((g.blocksize as usize - header) / entry)
-}
+/// The bytes of records that a walk first has room for: at least a block. Tests
+/// go past it with small trees.
+const FIRST_ROOM: usize = if cfg!(test) { 1 << 16 } else { 64 << 20 };
 
 /// A tree that was walked.
 #[derive(Debug, Clone, PartialEq, Eq)]
@@ -86,7 +73,9 @@ impl Tree {
     /// There is room for `root.blocks` blocks, but for no more than the image
     /// has and no more than a walk visits, max(agblocks, 64); a tree that comes
     /// to no block twice has no more than these. A tree of more is refused by
-    /// 15, or by 13 where it has more than a walk visits.
+    /// 15, or by 13 where it has more than a walk visits. The room is taken by
+    /// and by, so that a wrong number of blocks takes no more memory than about
+    /// 64 MiB or twice the tree.
     ///
     /// ```
     /// use kf::{build, Geometry, Kind, Rmap, Root, Tree};
@@ -106,23 +95,46 @@ impl Tree {
     /// assert_eq!((refused.refusal.number, refused.visits), (15, 4));
     /// ```
     pub fn walk(g: &Geometry, kind: Kind, image: &[u8], root: Root) -> Result<Tree, WalkRefusal> {
-        let (most, places) = if blocksize_is_valid(g) {
-            let most = root.blocks.min(g.agblocks.max(64) as usize);
-            (
-                most.min(image.len() / g.blocksize as usize),
-                stack_places(g, kind, root.levels),
-            )
-        } else {
-            (0, 0)
-        };
-        let mut stack = vec![0; places];
-        let (mut scratch, mut blocks) = (vec![0; most], vec![0; most]);
+        // Any other block size is refused before memory is asked about.
+        if !g.has_blocksize() {
+            return Tree::walk_in(0, g, kind, image, root);
+        }
+        let size = g.blocksize as usize;
+        let limit = root.blocks.min(g.agblocks.max(64)) as usize;
+        let most = limit.min(image.len() / size);
+        let mut room = most.min(FIRST_ROOM / size);
+        loop {
+            match Tree::walk_in(room, g, kind, image, root) {
+                // Only 15 goes by the room: every other refusal is the same with more.
+                Err(full) if full.refusal.question() == Some(Question::Full) && room < most => {
+                    room = most.min(2 * room);
+                }
+                walked => return walked,
+            }
+        }
+    }
+
+    /// The same with room for so many blocks, each of records alone.
+    fn walk_in(
+        room: usize,
+        g: &Geometry,
+        kind: Kind,
+        image: &[u8],
+        root: Root,
+    ) -> Result<Tree, WalkRefusal> {
+        let mut stack = vec![0; Lent::stack_places(g, kind, root.levels)];
+        let (mut scratch, mut blocks) = (vec![0; room], vec![0; room]);
         // No longer than the image, so the product does not overflow.
-        let mut records = vec![0; most * g.blocksize as usize];
+        let mut records = vec![0; room * g.blocksize as usize];
         let lent = Lent::new(&mut stack, &mut scratch, &mut blocks, &mut records);
         let (walked, linked) = lent::walk_linked(g, kind, image, root.root, root.levels, lent)?;
         blocks.truncate(walked.visits);
         records.truncate(walked.bytes);
+        // Most of the room was for blocks that are not there: it is given back.
+        if records.len() < records.capacity() / 2 {
+            blocks.shrink_to_fit();
+            records.shrink_to_fit();
+        }
         Ok(Tree {
             blocks,
             records,
@@ -207,8 +219,14 @@ struct Spare {
     free: Vec<u8>,
 }
 
-/// So many bytes of a vector; what they hold means nothing.
+/// So many bytes of a vector; what they hold means nothing. Where it has to be
+/// taken anew it gets a sixteenth more, so that a list that grows by a record
+/// at a time does not take a new one at each.
 fn lend(spare: &mut Vec<u8>, len: usize) -> &mut [u8] {
+    if spare.capacity() < len {
+        *spare = Vec::new();
+        spare.reserve_exact(len + len / 16);
+    }
     spare.resize(len, 0);
     spare
 }
@@ -261,8 +279,9 @@ impl Group {
     }
 
     /// Reads both trees of a group, the reverse map first; [`Tree::walk`] says
-    /// how. What the walks accept are blocks: the lists are asked about by the
-    /// calls that edit or build them.
+    /// how, and gives the blocks of a tree and whether it is linked besides. What
+    /// the walks accept are blocks: the lists are asked about by the calls that
+    /// edit or build them.
     ///
     /// ```
     /// use kf::{Geometry, Group, Kind, Rmap, Root};
@@ -289,14 +308,7 @@ impl Group {
     }
 
     /// The bytes of the list of a kind.
-    ///
-    /// ```
-    /// use kf::{Group, Kind};
-    /// let group = Group::new(vec![0; 24], vec![]);
-    /// assert_eq!(group.list(Kind::Rmap), [0; 24]);
-    /// assert_eq!(group.list(Kind::Refcount), []);
-    /// ```
-    pub fn list(&self, kind: Kind) -> &[u8] {
+    fn list(&self, kind: Kind) -> &[u8] {
         match kind {
             Kind::Rmap => &self.map,
             Kind::Refcount => &self.counts,
@@ -342,7 +354,7 @@ impl Group {
     }
 
     /// Takes an extent whose blocks are all held, as
-    /// [`take_held`](crate::take_held) does, and raises the counts over it.
+    /// [`take_held`](crate::take_held) does, and raises the owners over it.
     /// Questions 19 and 20, then 19 and 21, then 22, 23, 25, 27 and 28.
     ///
     /// ```
@@ -371,9 +383,12 @@ impl Group {
         Ok(())
     }
 
-    /// Lets an extent go, as [`let_go`](crate::let_go) does: what of it nobody
-    /// holds any more, as longest runs, ascending. Questions 19, 20, 22 and 24,
-    /// then 19, 21 and 25.
+    /// Lets an extent go, as [`let_go`](crate::let_go) does: the blocks of it that
+    /// no shared record met before, as longest runs, ascending. Where the counts
+    /// agree with the reverse map nobody holds these any more; no call asks
+    /// whether they agree. The file offset of `x` is not asked about: it chooses
+    /// where several records contain it. Questions 19, 20, 22 and 24, then 19, 21
+    /// and 25.
     ///
     /// ```
     /// use kf::{FreeExtent, Group, Question, Rmap};

@@ -1,6 +1,6 @@
 //! XFS group trees from Rust: the reverse map, the shared counts and the
-//! blocks that hold them. The code behind it is proved; this crate only calls
-//! it.
+//! blocks that hold them. The library behind it is proved; what this crate adds
+//! is said [below](#what-is-proved-and-what-this-crate-is-trusted-for).
 //!
 //! It checks blocks, walks trees, takes extents and lets them go, says which
 //! blocks are free again, and plans trees and builds them afresh. It reads no
@@ -18,9 +18,11 @@
 //! ```
 //!
 //! Where the two archives are elsewhere, the environment variable
-//! `KF_LIB_DIR` names their folder. No crate of a registry is needed. The crate
-//! is `no_std` and takes its vectors from `alloc`. A C program includes `kf.h`
-//! and links the same two.
+//! `KF_LIB_DIR` names their folder, from this one on where it is not absolute.
+//! They are compiled for x86-64 with the calling convention of System V, and
+//! need `memset`. No crate of a registry is needed. The crate is `no_std` and
+//! takes its vectors from `alloc`. A C program includes `kf.h` and links the
+//! same two.
 //!
 //! # A group, from its trees and back
 //!
@@ -36,8 +38,8 @@
 //!
 //! // A new group: inode 131 takes eight blocks, inode 132 shares four of them.
 //! let mut group = Group::default();
-//! let release = Rmap { startblock: 40, blockcount: 8, owner: 131, offset: 0 };
-//! group.take(&release)?;
+//! let first = Rmap { startblock: 40, blockcount: 8, owner: 131, offset: 0 };
+//! group.take(&first)?;
 //! group.take_held(&Rmap { startblock: 42, blockcount: 4, owner: 132, offset: 0 })?;
 //!
 //! // Build both trees and store their blocks; each of the two is one block here.
@@ -53,13 +55,13 @@
 //! assert_eq!(Group::walk(&g, &image, map, counts)?, group);
 //!
 //! // Let go what inode 131 has: the blocks that nobody shares are free again.
-//! let free = group.let_go(&release)?;
+//! let free = group.let_go(&first)?;
 //! let before = FreeExtent { startblock: 40, blockcount: 2 };
 //! let after = FreeExtent { startblock: 46, blockcount: 2 };
 //! assert_eq!(free, [before, after]);
 //!
 //! // A refusal says why, and changes nothing.
-//! let refusal = group.let_go(&release).unwrap_err();
+//! let refusal = group.let_go(&first).unwrap_err();
 //! assert_eq!(
 //!     refusal.to_string(),
 //!     "no record of the extent's owner and flags contains it (24)",
@@ -96,8 +98,9 @@
 //! | | [`insert_shared`], [`remove`], [`release`]: one list of the two |
 //! | | [`crc32c`], [`crc32c_singly`] |
 //!
-//! Every call answers with a result or a [`Refusal`], whose number says which of
-//! the library's questions failed; all questions before it held. [`Question`]
+//! Every call but the two of CRC32C answers with a result or a refusal: a
+//! [`Refusal`], or a [`WalkRefusal`] with one in it. Its number says which of the
+//! library's questions failed; all questions before it held. [`Question`]
 //! has all numbers with their texts; `docs/QUESTIONS.md` of the repository has
 //! each in full, the order in which each call asks, and the words used here. A
 //! refused call on lent memory writes nothing, but a [`walk`] or a
@@ -129,7 +132,12 @@
 //!
 //! Under both lie what made the archives (the Rattle kit), the Rust compiler
 //! and the linker. That the geometry, the root and the image are those of the
-//! group is the caller's to see to.
+//! group is the caller's to see to, and so is that the two lists agree: what a let
+//! go says is free goes by the shared counts, and no call asks whether a shared
+//! record of n owners lies over a block exactly where n records of the reverse
+//! map, two or more, do. Takes and lets go keep lists that agree so (that is
+//! proved), [`insert_shared`], [`remove`] and [`release`] by themselves do not. The
+//! example `retire` looks whether a block that it was told is free is held.
 
 #![no_std]
 #![warn(missing_docs)]

@@ -65,7 +65,7 @@ questions! {
     12 Scratch "the stack or the scratch is too short",
     13 Visits "max(agblocks, 64) blocks were visited, and another is due",
     14 Outside "the block does not lie whole in the image",
-    15 Full "the block or its records do not fit the block list and the record list",
+    15 Full "there is no room for the block, or for its records, in the lists lent",
     16 PlanLevels "the tree would have more than 9 levels",
     17 BlockNumbers "not as many block numbers as planned blocks",
     18 Output "the output is shorter than the planned blocks",
@@ -171,6 +171,9 @@ impl fmt::Display for Refusal {
             Some(Question::Magic | Question::Crc) => {
                 write!(f, ": expected {expected:#010x}, found {found:#010x}")
             }
+            Some(Question::Records) => {
+                write!(f, ": expected {expected} at most, found {found}")
+            }
             _ => write!(f, ": expected {expected}, found {found}"),
         }
     }
@@ -205,12 +208,12 @@ pub struct WalkRefusal {
     /// Why it was refused.
     pub refusal: Refusal,
     /// The blocks visited, a refused one among them unless 13 refused it.
-    pub visits: u64,
+    pub visits: usize,
 }
 
 impl WalkRefusal {
     /// A refusal of a walk.
-    pub const fn new(kind: Kind, refusal: Refusal, visits: u64) -> WalkRefusal {
+    pub const fn new(kind: Kind, refusal: Refusal, visits: usize) -> WalkRefusal {
         WalkRefusal {
             kind,
             refusal,
@@ -277,7 +280,8 @@ mod tests {
         );
         assert_eq!(
             text(10),
-            "the block claims more records or entries than fit it (10): expected 1, found 65261"
+            "the block claims more records or entries than fit it (10): \
+             expected 1 at most, found 65261"
         );
         assert_eq!(text(11), "the levels of the tree are not 1 to 9 (11)");
         assert_eq!(text(99), "refused by question 99");

@@ -6,8 +6,8 @@
 //! the two of CRC32C answers 0 where it was done, else the number of the first
 //! question that failed. `said: *mut [u64; 4]` is written whole, refused or
 //! not. `levels: *mut [u64; 9]` of a plan is written whole, or by a refusal not
-//! at all. `kind` is [`KF_KIND_RMAP`] or [`KF_KIND_REFCOUNT`]; any other number
-//! is taken for the second.
+//! at all. `kind` is [`KF_KIND_RMAP`] or [`KF_KIND_REFCOUNT`]; pass no other:
+//! today any other number is taken for the second.
 //!
 //! # Safety
 //!
@@ -259,8 +259,8 @@ extern "C" {
         said: *mut [u64; 4],
     ) -> u32;
 
-    /// Lowers the counts over an extent, and tells its blocks that are free
-    /// again.
+    /// Lowers the owners over an extent, and tells its blocks that no shared
+    /// record lay over.
     ///
     /// # Safety
     ///
@@ -278,8 +278,8 @@ extern "C" {
         said: *mut [u64; 4],
     ) -> u32;
 
-    /// The whole letting go: an extent leaves the reverse map, and the counts
-    /// over it are lowered.
+    /// The whole letting go: an extent leaves the reverse map, and the owners over
+    /// it are lowered; its blocks that no shared record lay over are told.
     ///
     /// # Safety
     ///

@@ -739,6 +739,81 @@ fn snake(name: &str) -> String {
     out
 }
 
+/// The numbers that the refusals of the Rattle source are told by.
+#[test]
+fn the_library_tells_these_numbers() {
+    let mut told = BTreeSet::new();
+    let crates = repository().join("crates");
+    for entry in fs::read_dir(&crates).expect("the crates") {
+        let dir = entry.expect("an entry").path().join("src");
+        for file in fs::read_dir(&dir).into_iter().flatten() {
+            let path = file.expect("an entry").path();
+            let source = fs::read_to_string(&path).expect("a module");
+            for after in source.split("Told::").skip(1) {
+                let of = ["plain(", "two("]
+                    .iter()
+                    .find_map(|w| after.strip_prefix(w));
+                let digits = of.and_then(|t| t.split([')', ',']).next());
+                told.extend(digits.and_then(|d| d.parse::<u32>().ok()));
+            }
+        }
+    }
+    let questions: BTreeSet<u32> = kf::Question::ALL.iter().map(|q| q.number()).collect();
+    assert_eq!(told, questions);
+}
+
+/// The numbers in a text, those of `a to b` between.
+fn numbers_in(text: &str) -> Vec<u32> {
+    let words: Vec<&str> = text
+        .split(|c: char| !is_word(c))
+        .filter(|w| !w.is_empty())
+        .collect();
+    let mut out: Vec<u32> = Vec::new();
+    for (i, word) in words.iter().enumerate() {
+        if let Ok(n) = word.parse() {
+            match (i > 0 && words[i - 1] == "to", out.last().copied()) {
+                (true, Some(last)) => out.extend(last + 1..=n),
+                _ => out.push(n),
+            }
+        }
+    }
+    out
+}
+
+/// The questions in brackets above each declaration of kf.h are those of
+/// docs/QUESTIONS.md, in the same order.
+#[test]
+fn the_header_has_the_questions_of_each_call() {
+    let header = read("bindings/kf.h");
+    let rows = table(&read("docs/QUESTIONS.md"), "| call | questions in order |");
+    for row in rows {
+        for call in named_in(std::slice::from_ref(&row)) {
+            let declared = header.find(&format!("uint32_t {call}(")).expect("declared");
+            let comment = header[..declared].rfind("/*").expect("a comment");
+            let comment = &header[comment..declared];
+            let bracket = |from: &str| -> Vec<u32> {
+                let inside = from.split(')').next().unwrap_or("");
+                let said = inside.replace(" * ", " ");
+                numbers_in(&said)
+            };
+            // The first bracket that begins with a number.
+            let said = comment
+                .split('(')
+                .skip(1)
+                .find(|t| t.starts_with(|c: char| c.is_ascii_digit()))
+                .map(bracket)
+                .unwrap_or_default();
+            let due = numbers_in(&row[1]);
+            // kf_walk_linked asks what kf_walk does, as its words say.
+            if call == "kf_walk_linked" {
+                assert!(comment.contains("refuses and leaves what kf_walk does"));
+                continue;
+            }
+            assert_eq!(said, due, "{call}");
+        }
+    }
+}
+
 #[test]
 fn every_raw_function_says_what_is_unsafe() {
     let missing = without_safety(&read("bindings/src/raw.rs"));

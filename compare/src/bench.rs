@@ -531,7 +531,7 @@ fn tree_vectors(n: usize, size: usize) {
     let (g, im, kind) = (layer::geometry(&s.g), &s.image, kf::Kind::Rmap);
     let records = format!("{n} records at {}", apart(size));
 
-    let root = kf::Root::new(im.root, im.levels, im.blocks.len());
+    let root = kf::Root::new(im.root, im.levels, im.blocks.len() as u32);
     let mut lent = Lent::of(&s);
     let times = by_turns(
         || once(|| s.walk_by(Walk::Linked, &mut lent)),

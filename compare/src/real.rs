@@ -8,10 +8,11 @@
 //! with the calls that were made for it, and a file that gives rise to none is
 //! an error.
 
-use crate::library::{self, Edit, Walk};
+use crate::library::{self, Walk};
 use crate::links;
 use crate::lists::{count_bytes, Count, STAGING};
 use crate::trees::{walk_figures, Memory, Room};
+use crate::vectors::extent;
 use oracle::bare::WalkAnswer;
 use oracle::rmap::{Rmap, OFF_ATTR_FORK, OFF_BMBT_BLOCK, OFF_UNWRITTEN};
 use oracle::{bare, paper, Geometry, Tree};
@@ -157,11 +158,10 @@ impl RealTree {
     }
 }
 
-/// The lists of a group as a history goes on.
+/// The lists of a group as a history goes on, over vectors.
 #[derive(Default)]
 struct Group {
-    map: Vec<u8>,
-    counts: Vec<u8>,
+    lists: kf::Group,
     free: Vec<u8>,
     made: Made,
 }
@@ -176,38 +176,21 @@ struct Made {
 
 impl Group {
     fn take(&mut self, x: Rmap) {
-        let mut new = vec![0; self.map.len() + 24];
-        let said = library::edit(Edit::Insert, &self.map, x, &mut new);
-        assert_eq!(said.number, 0, "insert {x:?}");
-        new.truncate(said.figures[0] as usize);
-        self.map = new;
+        let done = self.lists.take(&extent(x));
+        done.unwrap_or_else(|why| panic!("insert {x:?}: {why}"));
         self.made.insert += 1;
     }
 
     fn share(&mut self, x: Rmap) {
-        let mut map = vec![0; self.map.len() + 24];
-        let mut counts = vec![0; 2 * self.counts.len() + 36];
-        let said = library::take_held(&self.map, &self.counts, x, &mut map, &mut counts);
-        assert_eq!(said.number, 0, "take_held {x:?}");
-        map.truncate(said.figures[0] as usize);
-        counts.truncate(said.figures[1] as usize);
-        (self.map, self.counts) = (map, counts);
+        let done = self.lists.take_held(&extent(x));
+        done.unwrap_or_else(|why| panic!("take_held {x:?}: {why}"));
         self.made.take_held += 1;
     }
 
     fn go(&mut self, x: Rmap) {
-        let (mut map, mut counts) = (
-            vec![0; self.map.len() + 24],
-            vec![0; self.counts.len() + 24],
-        );
-        let mut free = vec![0; self.counts.len() + 8];
-        let said = library::let_go(&self.map, &self.counts, x, &mut map, &mut counts, &mut free);
-        assert_eq!(said.number, 0, "let_go {x:?}");
-        map.truncate(said.figures[0] as usize);
-        counts.truncate(said.figures[1] as usize);
-        free.truncate(said.figures[2] as usize);
-        (self.map, self.counts) = (map, counts);
-        self.free.extend(free);
+        let done = self.lists.let_go(&extent(x));
+        let free = done.unwrap_or_else(|why| panic!("let_go {x:?}: {why}"));
+        self.free.extend(free.iter().flat_map(|x| x.to_bytes()));
         self.made.let_go += 1;
     }
 }
@@ -225,22 +208,22 @@ fn history(file: &str, name: &str) -> u32 {
         g.free.clear();
         for line in step.lines().skip(1) {
             let w: Vec<&str> = line.split_whitespace().collect();
-            let extent = || Rmap {
+            let given = || Rmap {
                 startblock: number(w[1]),
                 blockcount: number(w[2]),
                 owner: number(w[3]),
                 offset: number(w[4]),
             };
             match w[0] {
-                "go" => g.go(extent()),
-                "take" | "take_shared" => g.take(extent()),
-                "share" => g.share(extent()),
+                "go" => g.go(given()),
+                "take" | "take_shared" => g.take(given()),
+                "share" => g.share(given()),
                 "free" => {
                     due.free.extend(number::<u32>(w[1]).to_be_bytes());
                     due.free.extend(number::<u32>(w[2]).to_be_bytes());
                 }
-                "rmap" => due.map.extend(bare::rmap_bytes(&[extent()])),
-                "refc" => due.counts.extend(count_bytes(&[Count {
+                "rmap" => due.lists.map.extend(bare::rmap_bytes(&[given()])),
+                "refc" => due.lists.counts.extend(count_bytes(&[Count {
                     start: number(w[1]),
                     count: number(w[2]),
                     owners: number(w[3]),
@@ -249,8 +232,12 @@ fn history(file: &str, name: &str) -> u32 {
             }
         }
         let at = step.lines().next().unwrap_or_default();
-        assert!(g.map == due.map, "{file}: step {at}: the map");
-        assert!(g.counts == due.counts, "{file}: step {at}: the counts");
+        let (now, due_now) = (&g.lists, &due.lists);
+        assert!(now.map == due_now.map, "{file}: step {at}: the map");
+        assert!(
+            now.counts == due_now.counts,
+            "{file}: step {at}: the counts"
+        );
         assert!(g.free == due.free, "{file}: step {at}: the blocks freed");
     }
     let m = &g.made;

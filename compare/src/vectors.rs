@@ -177,14 +177,14 @@ fn walk(r: &mut Random, tally: &mut Tally) {
     };
     let due = paper::walk_blocks(&w.g, w.tree, &w.image, w.root, w.levels, &lent);
     let due = match due.outcome.number() {
-        Some(n) => Err((u32::from(n), due.visits)),
+        Some(n) => Err((u32::from(n), due.visits as usize)),
         None => {
             let v = due.outcome.accepted().expect("a walk");
             let linked = links::linked(&w.g, &w.image, &v.blocks);
             Ok((v.blocks, v.records, linked))
         }
     };
-    let root = Root::new(w.root, w.levels, w.blocks);
+    let root = Root::new(w.root, w.levels, w.blocks as u32);
     let got = kf::Tree::walk(&geometry(&w.g), kind(w.tree), &w.image, root)
         .map(|t| (t.blocks, t.records, t.linked))
         .map_err(|refused| (refused.refusal.number, refused.visits));

@@ -113,6 +113,9 @@ impl Case {
         }
         let at = n as usize * size;
         if self.image.len() < at + size {
+            let more = at + size - self.image.len();
+            let none = |_| format!("block {n}: no memory for an image as long as that");
+            self.image.try_reserve(more).map_err(none)?;
             self.image.resize(at + size, 0);
         }
         self.image[at..at + size].copy_from_slice(bytes);

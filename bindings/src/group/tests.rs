@@ -67,6 +67,19 @@ struct Growth {
     /// Beyond the shared records met.
     counts_take_held: usize,
     free: usize,
+    /// The numbers that were answered.
+    refused: BTreeSet<u32>,
+}
+
+impl Growth {
+    fn most(&self) -> [usize; 4] {
+        [
+            self.map,
+            self.counts_let_go,
+            self.counts_take_held,
+            self.free,
+        ]
+    }
 }
 
 /// Both ways come to the same, and a refusal changes nothing. The group after
@@ -76,8 +89,8 @@ fn compared(group: &Group, edit: Edit, x: &Rmap, growth: &mut Growth) -> Option<
     match (by_vectors(&mut new, edit, x), by_call(group, edit, x)) {
         (Err(refusal), Err(by_call)) => {
             assert_eq!(refusal, by_call, "{edit:?} {x:?} {group:?}");
-            assert_ne!(refusal.question(), Some(Question::Room));
             assert_eq!(new, *group);
+            growth.refused.insert(refusal.number);
             None
         }
         (Ok(free), Ok((wanted, wanted_free))) => {
@@ -118,13 +131,8 @@ fn compared(group: &Group, edit: Edit, x: &Rmap, growth: &mut Growth) -> Option<
     }
 }
 
-/// What the lists can grow by; each is met.
-const MOST: Growth = Growth {
-    map: 1,
-    counts_let_go: 2,
-    counts_take_held: 1,
-    free: 1,
-};
+/// What the lists can grow by, in the order of `Growth`; each is met.
+const MOST: [usize; 4] = [1, 2, 1, 1];
 
 /// The extents over the first blocks, each of three holders; the second is the
 /// first at another place of the file.
@@ -172,7 +180,8 @@ fn every_history_over_three_blocks() {
     // Each block has any of the sets of three holders; how the records are cut
     // makes more of them.
     assert!(all_histories(3, vec![], &mut growth) > 512);
-    assert_eq!(growth, MOST);
+    assert_eq!(growth.most(), MOST);
+    assert!(growth.refused.iter().eq(&[23, 24, 27]));
 }
 
 /// A let go and a take of held blocks are refused where block 1 is met.
@@ -184,7 +193,8 @@ fn every_history_beside_staging() {
         refcount: 1,
     };
     let mut growth = Growth::default();
-    assert!(all_histories(3, staging.to_bytes().to_vec(), &mut growth) > 1);
+    assert!(all_histories(3, staging.to_bytes().to_vec(), &mut growth) > 20);
+    assert!(growth.refused.iter().eq(&[23, 24, 25, 27]));
 }
 
 #[test]
@@ -210,7 +220,7 @@ fn long_histories() {
         assert!(check_rmaps(&group.map).is_ok());
         assert!(check_refcounts(&group.counts).is_ok());
     }
-    assert_eq!(growth, MOST);
+    assert_eq!(growth.most(), MOST);
 }
 
 /// Many shared records and gaps under one extent.
@@ -273,7 +283,7 @@ fn any_bytes() {
         let all = Rmap {
             startblock: 0,
             blockcount: 1 << 31,
-            owner: -3,
+            owner: 5,
             offset: 0,
         };
         let map = if end() > 1 << 30 { all } else { x };
@@ -292,7 +302,7 @@ fn any_bytes() {
         }
         for edit in EDITS {
             compared(&group, edit, &x, &mut growth);
-            let owner = -3;
+            let owner = 5;
             compared(&group, edit, &Rmap { owner, ..x }, &mut growth);
         }
         let blocksize = ends[random.below(8) as usize];
@@ -306,6 +316,9 @@ fn any_bytes() {
             }
         }
     }
+    // By the lists, the extent and what the map holds; never 26.
+    let numbers = [19, 20, 21, 22, 23, 24, 25, 27, 28];
+    assert!(growth.refused.iter().eq(&numbers), "{:?}", growth.refused);
 }
 
 /// An empty record ends where an empty extent starts, and does not start before
@@ -333,7 +346,7 @@ fn any_root() {
     let image = vec![0xA5; 4096];
     for version in [0, 4, 5, u16::MAX] {
         for blocksize in sizes {
-            for (agblocks, blocks) in [(0, 0), (1, 1), (u32::MAX, usize::MAX)] {
+            for (agblocks, blocks) in [(0, 0), (1, 1), (u32::MAX, u32::MAX)] {
                 for levels in [0, 1, 9, 10, u32::MAX] {
                     for kind in [Kind::Rmap, Kind::Refcount] {
                         let g = Geometry::new(version, blocksize, agblocks, 0, [7; 16]);
@@ -384,8 +397,42 @@ fn built_and_walked() {
         let too_few = group.build(&g, kind, &numbers[1..]).unwrap_err();
         assert_eq!(too_few.question(), Some(Question::BlockNumbers));
         image.extend(group.build(&g, kind, &numbers).unwrap());
-        let root = numbers[numbers.len() - 1];
-        roots.push(Root::new(root, plan.levels().len() as u32, numbers.len()));
+        roots.push(plan.root(&numbers).unwrap());
     }
     assert_eq!(Group::walk(&g, &image, roots[0], roots[1]), Ok(group));
+}
+
+/// A tree of more blocks than a walk first has room for, with the right number
+/// of blocks, with a wrong one, and with too few.
+#[test]
+fn more_than_the_first_room() {
+    let g = Geometry::new(5, 512, 10_000, 0, [7; 16]);
+    let records = (0..10_000).flat_map(|i| {
+        let r = Rmap {
+            startblock: 2 * i,
+            blockcount: 1,
+            owner: 7,
+            offset: 0,
+        };
+        r.to_bytes()
+    });
+    let group = Group::new(records.collect(), vec![]);
+    let plan = group.plan(&g, Kind::Rmap).unwrap();
+    let numbers: Vec<u32> = (0..plan.total as u32).collect();
+    assert!(numbers.len() * 512 > 4 * FIRST_ROOM);
+    let image = group.build(&g, Kind::Rmap, &numbers).unwrap();
+    let root = plan.root(&numbers).unwrap();
+    for blocks in [root.blocks, u32::MAX] {
+        let root = Root::new(root.root, root.levels, blocks);
+        let tree = Tree::walk(&g, Kind::Rmap, &image, root).unwrap();
+        assert!(tree.records == group.map && tree.blocks == numbers && tree.linked);
+    }
+    let short = Root::new(root.root, root.levels, root.blocks - 1);
+    let refused = Tree::walk(&g, Kind::Rmap, &image, short).unwrap_err();
+    assert_eq!(refused.refusal.question(), Some(Question::Full));
+    // A damaged leaf is refused as the call on lent memory refuses it.
+    let mut damaged = image.clone();
+    damaged[400 * 512] ^= 1;
+    let refused = Tree::walk(&g, Kind::Rmap, &damaged, root).unwrap_err();
+    assert_eq!(refused.refusal.question(), Some(Question::Magic));
 }

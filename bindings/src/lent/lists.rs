@@ -103,9 +103,10 @@ pub fn insert_shared(old: &[u8], x: &Rmap, new: &mut [u8]) -> Result<usize, Refu
     edit(raw::kf_insert_shared, old, x, new)
 }
 
-/// Gives an extent up: the reverse map `old` without `x` goes to `new`, and its
-/// length in bytes comes back. The shared counts are left alone: [`let_go`] does
-/// both. Questions 19, 20, 22, 24 and 26.
+/// Takes an extent out of the reverse map: `old` without `x` goes to `new`, and
+/// its length in bytes comes back. The file offset of `x` is not asked about: it
+/// chooses where several records contain it. The shared counts are left alone:
+/// [`let_go`] does both. Questions 19, 20, 22, 24 and 26.
 ///
 /// ```
 /// use kf::{remove, Rmap};
@@ -131,7 +132,7 @@ pub struct Released {
     pub free: usize,
 }
 
-/// Lowers the counts over an extent by one; the blocks of it that nobody shared
+/// Lowers the owners over an extent by one; the blocks of it that no shared record met
 /// go to `free`, as longest runs. Questions 19, 21, 22, 25 and 26.
 ///
 /// ```
@@ -204,9 +205,12 @@ impl<'a> NewLists<'a> {
     }
 }
 
-/// The whole letting go: `x` leaves the reverse map, the counts over it are
-/// lowered, and its blocks that nobody holds any more go to `free`. Questions
-/// 19, 20, 22 and 24, then 19, 21 and 25, then 26.
+/// The whole letting go: `x` leaves the reverse map, the owners over it are
+/// lowered, and its blocks that no shared record met before go to `free`. Where
+/// the counts agree with the reverse map nobody holds these any more; no call
+/// asks whether they agree. The file offset of `x` is not asked about: it chooses
+/// where several records contain it. Questions 19, 20, 22 and 24, then 19, 21 and
+/// 25, then 26.
 ///
 /// ```
 /// use kf::{let_go, NewLists, Rmap};
@@ -259,7 +263,7 @@ pub struct TakenHeld {
 }
 
 /// Takes an extent whose blocks are all held: `x` goes into the reverse map
-/// beside the mappings that are there, and the counts over it are raised.
+/// beside the records that are there, and the owners over it are raised.
 /// Questions 19 and 20, then 19 and 21, then 22, 23, 25, 27, 28 and 26.
 ///
 /// ```

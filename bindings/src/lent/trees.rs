@@ -1,6 +1,7 @@
 //! CRC32C, and the calls on blocks and trees.
 
 use crate::geometry::{Geometry, Kind};
+use crate::group::Root;
 use crate::question::{answer, Refusal, WalkRefusal};
 use crate::raw;
 
@@ -114,6 +115,27 @@ impl Plan {
     pub fn levels(&self) -> &[u64] {
         &self.blocks[..self.levels]
     }
+
+    /// Where the tree begins that is built at these numbers; none where they are
+    /// not as many as planned.
+    ///
+    /// ```
+    /// use kf::{plan, Geometry, Kind, Root};
+    /// let g = Geometry::new(5, 512, 100, 0, [7; 16]);
+    /// let p = plan(&g, Kind::Rmap, 50).unwrap();
+    /// assert_eq!(p.root(&[5, 2, 8, 4]), Some(Root::new(4, 2, 4)));
+    /// assert_eq!(p.root(&[5, 2, 8]), None);
+    /// ```
+    pub fn root(&self, numbers: &[u32]) -> Option<Root> {
+        let blocks = u32::try_from(self.total).ok()?;
+        match numbers {
+            // The root is built last.
+            [.., root] if numbers.len() as u64 == self.total => {
+                Some(Root::new(*root, self.levels as u32, blocks))
+            }
+            _ => None,
+        }
+    }
 }
 
 /// How many blocks each level of a tree of so many records has. Questions 1
@@ -218,7 +240,7 @@ pub fn build(
     answer(n, &said, built)
 }
 
-/// What a walk is lent: a stack of 2 × levels × node capacity places or more,
+/// What a walk is lent: a stack of [`Lent::stack_places`] places or more,
 /// as many places of scratch as the block list has, and the two lists.
 #[derive(Debug)]
 #[non_exhaustive]
@@ -234,6 +256,25 @@ pub struct Lent<'a> {
 }
 
 impl<'a> Lent<'a> {
+    /// The places that a walk's stack has to have: twice the levels, times the
+    /// entries that a node has room for. It is 0 where 1 or 11 refuses the walk.
+    ///
+    /// ```
+    /// let g = kf::Geometry::new(5, 4096, 100, 0, [7; 16]);
+    /// assert_eq!(kf::Lent::stack_places(&g, kf::Kind::Rmap, 3), 2 * 3 * 91);
+    /// ```
+    pub fn stack_places(g: &Geometry, kind: Kind, levels: u32) -> usize {
+        if !g.has_blocksize() || !(1..=9).contains(&levels) {
+            return 0;
+        }
+        let header = if g.version == 5 { 56 } else { 16 };
+        let entry = match kind {
+            Kind::Rmap => 44,
+            Kind::Refcount => 8,
+        };
+        2 * levels as usize * ((g.blocksize as usize - header) / entry)
+    }
+
     /// The four, as given; the walk asks whether stack and scratch are long
     /// enough (question 12).
     pub fn new(
@@ -329,7 +370,8 @@ fn walk_by(
         records: said[1] as usize,
         bytes: said[2] as usize,
     };
-    answer(n, &said, (walked, said[3])).map_err(|refusal| WalkRefusal::new(kind, refusal, said[2]))
+    answer(n, &said, (walked, said[3]))
+        .map_err(|refusal| WalkRefusal::new(kind, refusal, said[2] as usize))
 }
 
 /// Reads a tree of so many levels from its root. The image is the group, block
@@ -394,13 +436,13 @@ pub fn walk(
 /// };
 /// assert_eq!(records_of(&image), (list.clone(), true));
 ///
-/// // The middle leaf names another block as the one after it, and its check is
+/// // The middle leaf names another block as the one after it, and its CRC is
 /// // put right again: the same records, no longer linked.
 /// let leaf = &mut image[2 * 512..][..512];
 /// leaf[12..16].copy_from_slice(&5u32.to_be_bytes());
 /// leaf[52..56].fill(0);
-/// let check = kf::crc32c(leaf);
-/// leaf[52..56].copy_from_slice(&check.to_le_bytes());
+/// let crc = kf::crc32c(leaf);
+/// leaf[52..56].copy_from_slice(&crc.to_le_bytes());
 /// assert_eq!(records_of(&image), (list, false));
 /// ```
 pub fn walk_linked(

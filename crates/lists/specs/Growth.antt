@@ -21,7 +21,8 @@ unfoldable pub met : ℕ → ℕ → List Refcount → ℕ
 met s e [] = 0
 met s e (r ∷ l) = cond (meets s e r) 1 0 + met s e l
 
--- how many records more a raise leaves at most: two and one for each gap, and not more than one more than shared records are met
+-- how many records more a raise leaves at most: two and one for each gap, or one more than shared records are met, whichever is less. The gaps are the
+-- runs of `unshared`.
 abbrev pub mostRaised : List Refcount → (start count : ℕ) → ℕ
 mostRaised l start count = min (2 + length (unshared l start count)) (met start (start + count) l + 1)
 
