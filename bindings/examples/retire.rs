@@ -156,15 +156,33 @@ fn let_all_go(
 /// free goes by the shared counts, and no call asks whether they agree with the
 /// reverse map; a block that is held must not be given to another.
 fn held(group: &Group, free: &[FreeExtent]) -> Option<(FreeExtent, Rmap)> {
-    let mut free = free.to_vec();
-    free.sort_by_key(|x| x.startblock);
+    let free = ascending(free);
     group.rmaps().find_map(|r| {
-        // They do not overlap one another: the first that ends behind the start
-        // of the record is the first that can meet it.
+        // The first that ends behind the start of the record is the first that can
+        // meet it.
         let i = free.partition_point(|x| x.end() <= u64::from(r.startblock));
         let x = *free.get(i)?;
         (u64::from(x.startblock) < r.end()).then_some((x, r))
     })
+}
+
+/// The same blocks in extents that ascend, of which none overlaps another. From
+/// lists that do not agree a block can be told as free twice.
+fn ascending(free: &[FreeExtent]) -> Vec<FreeExtent> {
+    let mut all = free.to_vec();
+    all.sort_by_key(|x| x.startblock);
+    let mut out: Vec<FreeExtent> = Vec::new();
+    for x in all {
+        match out.last_mut() {
+            Some(last) if u64::from(x.startblock) < last.end() => {
+                // Both end by 2^31, or 22 had refused them.
+                let end = last.end().max(x.end()) as u32;
+                last.blockcount = end - last.startblock;
+            }
+            _ => out.push(x),
+        }
+    }
+    out
 }
 
 /// Builds both trees in a copy of the image, and says where they begin.
@@ -182,8 +200,8 @@ fn build_both(
     out: &mut dyn Write,
 ) -> Result<(Vec<u8>, [Root; 2]), Box<dyn Error>> {
     let in_old = |n: &u32| old.iter().any(|(_, blocks)| blocks.contains(n));
-    let mut spare = free
-        .iter()
+    let mut spare = ascending(free)
+        .into_iter()
         .flat_map(|x| x.startblock..x.startblock + x.blockcount)
         .filter(|n| *n < g.agblocks && !in_old(n));
     let mut copy = image.to_vec();
@@ -377,6 +395,9 @@ mod tests {
         };
         assert_eq!(held(&group, &[at(6, 9), at(0, 4)]), None);
         assert_eq!(held(&group, &[at(7, 9), at(5, 1)]), Some((at(5, 1), b)));
+        // Told twice: the shorter one, which comes later, does not hide the other.
+        let twice = [at(0, 9), at(1, 2)];
+        assert_eq!(held(&group, &twice), Some((at(0, 9), b)));
     }
 
     /// The whole of it on a group whose lists do not agree: the count over the
