@@ -124,7 +124,7 @@ impl Values {
 /// let refusal = Refusal::new(Question::Unheld, None);
 /// assert_eq!(refusal.to_string(), "a block of the extent is not held (27)");
 /// ```
-#[derive(Debug, Clone, Copy, PartialEq, Eq, Hash)]
+#[derive(Clone, Copy, PartialEq, Eq, Hash)]
 #[non_exhaustive]
 pub struct Refusal {
     /// The number of the question that failed; all before it held.
@@ -155,6 +155,17 @@ impl Refusal {
             _ => None,
         };
         Refusal { number, values }
+    }
+}
+
+/// With the question's name, since `main` prints an error so.
+impl fmt::Debug for Refusal {
+    fn fmt(&self, f: &mut fmt::Formatter<'_>) -> fmt::Result {
+        f.debug_struct("Refusal")
+            .field("number", &self.number)
+            .field("question", &self.question())
+            .field("values", &self.values)
+            .finish()
     }
 }
 
@@ -284,6 +295,10 @@ mod tests {
              expected 1 at most, found 65261"
         );
         assert_eq!(text(11), "the levels of the tree are not 1 to 9 (11)");
+        assert_eq!(
+            format!("{:?}", Refusal::new(Question::Missing, None)),
+            "Refusal { number: 24, question: Some(Missing), values: None }"
+        );
         assert_eq!(text(99), "refused by question 99");
         assert_eq!(Refusal::from_figures(99, &said).question(), None);
         for &q in Question::ALL {
