@@ -1,4 +1,5 @@
-/* An extent is taken, taken once more by another owner, and let go by both; then the reverse map is built as a tree and read back.
+/* An extent is taken, taken once more by another owner, and let go by both; then the reverse map is built as a tree and read back. The calls
+ * are the proved library's; what is lent to them, and what is made of their answers, is this program's.
  * Compile it in the repository's folder, as C99 or later, or as C++11 or later:
  *
  *   cc -std=c99 -Wall -Wextra -pedantic -I bindings bindings/examples/let_go.c \
