@@ -176,7 +176,7 @@ uint32_t kf_walk_linked(KF_GEOMETRY, uint32_t kind, const uint8_t *image, size_t
  *   - in kf_take_held the records of the old counts, and as many more as the lesser of 2 + gaps and 1 + met: met are the shared records that have
  *     a block in common with the extent, gaps the longest runs of its blocks that none of them lies over;
  *   - 1 + met free extents.
- * That is proved (crates/groups/specs/Room.antt). */
+ * That is proved (`Never26` of crates/list_calls/specs/Room.antt). */
 
 /* A first take: an extent of which no block is held goes into the reverse map `old`, and the new one to `new_map` (19, 20, 22, 23, 26).
  * said: bytes of the new reverse map, 0, 0, 0; refused: zeros. */

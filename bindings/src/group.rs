@@ -1,9 +1,10 @@
 //! The same calls over vectors that size themselves.
 //!
 //! How much longer a list can get is a law of the library:
-//! `crates/groups/specs/Room.antt` of the repository states it (`EveryRoom`),
-//! and it is proved. That the sizes below are those of the law is checked by
-//! tests.
+//! `crates/groups/specs/Room.antt` of the repository states it, and
+//! `crates/list_calls/specs/Room.antt` that with so much room no call answers 26
+//! (`Never26`). Both are proved. That the sizes below are those of the law is
+//! checked by tests.
 
 use crate::geometry::{Geometry, Kind};
 use crate::lent::{self, Lent, NewLists, Plan};

@@ -22,10 +22,9 @@ use Rattle.codec.specs.declared.refcount.Refcount.{Refcount}
 use Rattle.codec.proofs.Meaning.{AllHold}
 use Rattle.codec.proofs.RecordLists.{Lawful, length-recordsOf, length-bytesOf}
 use Rattle.codec.proofs.RecordKinds.{rmaps-lawful, refcounts-lawful, freeExtents-lawful}
-use Rattle.codec.proofs.ListBytes.{storable-recordsOf}
+use Rattle.codec.proofs.ListBytes.{storable-recordsOf, isBytes-bytesOf}
 use Rattle.lists.specs.declared.splice.Edit.{Edit}
 use Rattle.lists.specs.declared.splice.Edit.the-variants.{Insert, InsertShared, Remove}
-use Rattle.lists.specs.declared.EditRefusal.{EditRefusal}
 use Rattle.lists.specs.declared.Edited.the-variants as single
 use Rattle.lists.specs.Extent as blocks
 use Rattle.lists.specs.Holders as holding
@@ -35,8 +34,7 @@ use Rattle.lists.specs.Release as lower
 use Rattle.lists.specs.Release.{release, unshared}
 use Rattle.lists.specs.Raise as upper
 use Rattle.lists.specs.Raise.{raise, ownersFit}
-use Rattle.lists.specs.Edits.{fits, edited, editQuestions, insertOutcome, extentQuestions, releaseOutcome}
-use Rattle.lists.specs.Answer.{editNumber}
+use Rattle.lists.specs.Edits.{fits, edited, editQuestions, insertOutcome, insertSharedOutcome, removeOutcome, extentQuestions, releaseOutcome}
 use Rattle.lists.specs.Growth.{met, mostRaised, Counted}
 use Rattle.lists.proofs.Cases.{and-true}
 use Rattle.lists.proofs.Staged as extents
@@ -46,8 +44,7 @@ use Rattle.groups.specs.declared.GroupEdited.the-variants as both
 use Rattle.groups.specs.LetGo.{letGoQuestions, letGoOutcome}
 use Rattle.groups.specs.TakeHeld.{takeHeldQuestions, takeHeldOutcome}
 use Rattle.groups.specs.History.{Lists, Change, take, takeHeld, letGo, step}
-use Rattle.groups.specs.Calls.{inserting, takingHeld, lettingGo}
-use Rattle.groups.specs.Room.{mapRoom, lowerRoom, freeRoom, raiseRoom, Not26, EveryEditHasRoom, EveryReleaseHasRoom, Roomy, EveryRoom, EveryRoomyCall}
+use Rattle.groups.specs.Room.{mapRoom, lowerRoom, freeRoom, raiseRoom, Not26, EveryEditHasRoom, EveryReleaseHasRoom, Roomy, EveryRoom}
 use Rattle.groups.proofs.Asking.{others, last-asked}
 use Rattle.groups.proofs.Example.{record-of, counted, free-at, small-fits}
 
@@ -81,13 +78,10 @@ module _ (e : Edit) (b : List ℕ) (x : Rmap) (room : ℕ) (r : mapRoom b ≤ ro
   map-fits = more-fits rmaps rmaps-lawful b (edited e x (recordsOf rmaps b)) 1 room (map-length e x (recordsOf rmaps b)) (omega arith)
 
 pub edit-roomy : EveryEditHasRoom
-unfolding others
-edit-roomy e b x room r = never-26 (editQuestions e b x) _ _ (other e) (λ k. map-fits e b x room r)
-  where
-    other : (e : Edit) → others 26 (editQuestions e b x) ≡ true
-    other Insert = refl
-    other InsertShared = refl
-    other Remove = refl
+unfolding others insertOutcome insertSharedOutcome removeOutcome
+edit-roomy Insert b x room r = never-26 (editQuestions Insert b x) _ _ refl (λ k. map-fits Insert b x room r)
+edit-roomy InsertShared b x room r = never-26 (editQuestions InsertShared b x) _ _ refl (λ k. map-fits InsertShared b x room r)
+edit-roomy Remove b x room r = never-26 (editQuestions Remove b x) _ _ refl (λ k. map-fits Remove b x room r)
 
 module _ (c : List ℕ) (start count : ℕ) (bytes : IsBytes c) (order : refcount.accepted (recordsOf refcounts c) ≡ true) (end : start + count ≤ 2 ^ 31) where
   abbrev l : List Refcount
@@ -120,7 +114,7 @@ map-not f (done x) h v e = let z : _≡_ {A = ℕ} 0 1 = cc in omega arith
 map-not f (refused n w) h v e = let p : n ≡ 26 = cc in let q : w ≡ v = cc in h v (rw (p, q) refl)
 
 module _ (map counts : List ℕ) (x : Rmap) (bytes : IsBytes counts) where
-  let-go-roomy : (room countsRoom extentsRoom : ℕ) → mapRoom map ≤ room → lowerRoom counts ≤ countsRoom → freeRoom counts (x .startblock) (x .blockcount) ≤ extentsRoom
+  pub let-go-roomy : (room countsRoom extentsRoom : ℕ) → mapRoom map ≤ room → lowerRoom counts ≤ countsRoom → freeRoom counts (x .startblock) (x .blockcount) ≤ extentsRoom
       → Not26 (letGoOutcome map counts x room countsRoom extentsRoom)
   unfolding letGoOutcome
   let-go-roomy room countsRoom extentsRoom r s t =
@@ -130,7 +124,7 @@ module _ (map counts : List ℕ) (x : Rmap) (bytes : IsBytes counts) where
       and-true _ _ (map-fits Remove map x room r)
       (and-true _ _ (lowered-fits counts (x .startblock) (x .blockcount) bytes order end countsRoom s) (free-fits counts (x .startblock) (x .blockcount) bytes order end extentsRoom t)))
 
-  take-held-roomy : (room countsRoom : ℕ) → mapRoom map ≤ room → raiseRoom counts (x .startblock) (x .blockcount) ≤ countsRoom
+  pub take-held-roomy : (room countsRoom : ℕ) → mapRoom map ≤ room → raiseRoom counts (x .startblock) (x .blockcount) ≤ countsRoom
       → Not26 (takeHeldOutcome map counts x room countsRoom)
   unfolding takeHeldOutcome
   take-held-roomy room countsRoom r s =
@@ -142,28 +136,10 @@ module _ (map counts : List ℕ) (x : Rmap) (bytes : IsBytes counts) where
       (and-true _ _ (raised-fits counts (x .startblock) (x .blockcount) bytes order end countsRoom (k .1 .1 .1 .1 .1 .1 .1 .1 .0) s) nothing-free))
 
 pub roomy : EveryRoom
-unfolding step insertOutcome
+unfolding step
 roomy σ (take x fits room) bytes r = map-not _ _ (edit-roomy Insert (σ .map) x room r)
 roomy σ (takeHeld x fits room countsRoom) bytes r = map-not _ _ (take-held-roomy (σ .map) (σ .counts) x bytes room countsRoom (r .0) (r .1))
 roomy σ (letGo x room countsRoom extentsRoom) bytes r = map-not _ _ (let-go-roomy (σ .map) (σ .counts) x bytes room countsRoom extentsRoom (r .0) (r .1) (r .2))
-
--- ---- the calls
-
--- the refusal q was said, and what the call came to is not 26
-said-not : {A B : Type 0} (f : A → B) (o : Outcome A) (q : EditRefusal) → refused (editNumber q) none ≡ mapOutcome f o → Not26 o → editNumber q ≡ 26 → ⊥
-said-not f (done x) q e h n = let z : _≡_ {A = ℕ} 0 1 = cc in omega arith
-said-not f (refused m v) q e h n = let p : m ≡ editNumber q = cc in h v (rw (p, n) refl)
-
-pub roomy-call : EveryRoomyCall
-unfolding insertOutcome
-roomy-call σ (inserting x fits (single.Done n) new) bytes p r = omega arith
-roomy-call σ (inserting x fits (single.Refused q) new) bytes p r = said-not _ _ q (p .said) (edit-roomy Insert (σ .map) x (length (new .entry)) r)
-roomy-call σ (takingHeld x fits (both.Done n) taken raised) bytes p r = omega arith
-roomy-call σ (takingHeld x fits (both.Refused q) taken raised) bytes p r =
-    said-not _ _ q (p .said) (take-held-roomy (σ .map) (σ .counts) x bytes (length (taken .entry)) (length (raised .entry)) (r .0) (r .1))
-roomy-call σ (lettingGo x (both.Done n) kept lowered free) bytes p r = omega arith
-roomy-call σ (lettingGo x (both.Refused q) kept lowered free) bytes p r =
-    said-not _ _ q (p .said) (let-go-roomy (σ .map) (σ .counts) x bytes (length (kept .entry)) (length (lowered .entry)) (length (free .entry)) (r .0) (r .1) (r .2))
 
 -- ---- instances: steps that take all of the room of one list, done, and refused with a byte fewer
 
@@ -231,3 +207,10 @@ taken =
       raised-short = refl;
       across-roomy = (omega arith, omega arith);
     }
+
+-- the theorems on them
+middle-never : Not26 (step three (middle 96 36))
+middle-never = roomy three (middle 96 36) (isBytes-bytesOf refcounts refcounts-lawful (counted 0 10 3 ∷ [])) (taken .middle-roomy)
+
+across-never : Not26 (step apart (across 60))
+across-never = roomy apart (across 60) (isBytes-bytesOf refcounts refcounts-lawful (counted 0 4 2 ∷ counted 6 4 2 ∷ [])) (taken .across-roomy)

@@ -1,7 +1,7 @@
 -- The room with which 26 is never the answer: for a new reverse map one record more than it had; for the counts two more after a release or a let go, and
 -- after a take of held blocks two and one for each gap or one more than shared records are met, whichever is less; for the free extents one more than
 -- shared records are met. The vectors of the bindings have no less. proofs/Rooms.antt proves the statements that begin with `Every`, with instances in which
--- all of the room is taken.
+-- all of the room is taken. That the calls of the C interface then do not answer 26 is in crates/list_calls/specs/Room.antt.
 -- Assumes nothing.
 use Prim.Native.Nat.{ℕ, _+_, _*_, _≤_}
 use mathlib.Core.Path.{_≡_}
@@ -11,14 +11,11 @@ use Rattle.codec.specs.Bytes.{IsBytes}
 use Rattle.codec.specs.Question.{Values, Outcome, refused}
 use Rattle.codec.specs.Records.{recordsOf, rmaps, refcounts, freeExtents}
 use Rattle.codec.specs.declared.rmap.Rmap.{Rmap}
-use Rattle.lists.specs.declared.Edited.the-variants as edited
 use Rattle.lists.specs.declared.splice.Edit.{Edit}
-use Rattle.lists.specs.Edits.{editWithRoom, releaseOutcome}
-use Rattle.lists.specs.Answer.{editNumber}
+use Rattle.lists.specs.declared.splice.Edit.the-variants.{Insert, InsertShared, Remove}
+use Rattle.lists.specs.Edits.{insertOutcome, insertSharedOutcome, removeOutcome, releaseOutcome}
 use Rattle.lists.specs.Growth.{met, mostRaised}
-use Rattle.groups.specs.declared.GroupEdited.the-variants as both
 use Rattle.groups.specs.History.{Lists, Change, take, takeHeld, letGo, step}
-use Rattle.groups.specs.Calls.{Call, inserting, takingHeld, lettingGo, Promised, changeOf}
 
 -- ---- bytes
 
@@ -40,11 +37,17 @@ raiseRoom c start count = length c + mostRaised (recordsOf refcounts c) start co
 
 -- ---- edits of one list
 
+-- what each edit of the reverse map comes to
+abbrev pub editOutcome : Edit → List ℕ → Rmap → ℕ → Outcome (List Rmap)
+editOutcome Insert = insertOutcome
+editOutcome InsertShared = insertSharedOutcome
+editOutcome Remove = removeOutcome
+
 abbrev pub Not26 : {A : Type 0} → Outcome A → Type 0
 Not26 o = (v : Values) → o ≡ refused 26 v → ⊥
 
 abbrev pub EveryEditHasRoom : Type 0
-EveryEditHasRoom = (e : Edit) (b : List ℕ) (x : Rmap) (room : ℕ) → mapRoom b ≤ room → Not26 (editWithRoom e b x room)
+EveryEditHasRoom = (e : Edit) (b : List ℕ) (x : Rmap) (room : ℕ) → mapRoom b ≤ room → Not26 (editOutcome e b x room)
 
 abbrev pub EveryReleaseHasRoom : Type 0
 EveryReleaseHasRoom =
@@ -63,18 +66,3 @@ Roomy σ (letGo x room countsRoom extentsRoom) =
 -- whatever the lists are, as long as they are bytes
 abbrev pub EveryRoom : Type 0
 EveryRoom = (σ : Lists) (c : Change) → IsBytes (σ .counts) → Roomy σ c → Not26 (step σ c)
-
--- ---- the calls
-
--- the number that a call answered
-abbrev pub numberOf : Call → ℕ
-numberOf (inserting x fits (edited.Done n) new) = 0
-numberOf (inserting x fits (edited.Refused q) new) = editNumber q
-numberOf (takingHeld x fits (both.Done n) taken raised) = 0
-numberOf (takingHeld x fits (both.Refused q) taken raised) = editNumber q
-numberOf (lettingGo x (both.Done n) kept lowered free) = 0
-numberOf (lettingGo x (both.Refused q) kept lowered free) = editNumber q
-
--- a call that keeps its contract and was lent that room did not answer 26
-abbrev pub EveryRoomyCall : Type 0
-EveryRoomyCall = (σ : Lists) (k : Call) → IsBytes (σ .counts) → Promised σ k → Roomy σ (changeOf k) → numberOf k ≡ 26 → ⊥

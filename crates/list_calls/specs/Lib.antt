@@ -1,2 +1,3 @@
--- What the calls that edit lists say and leave.
+-- What the calls that edit lists say and leave, and with which room none of them answers 26.
 pub mod ListCalls
+pub mod Room

@@ -1,7 +1,7 @@
 -- How many records the new lists have at most, and lists that have as many.
 -- Assumes nothing.
-use Prim.Native.Nat.{ℕ, _+_, _/_, _^_, _≤_, _<_, min, max}
-use mathlib.Core.Bool.{Bool, true, false, not, cond}
+use Prim.Native.Nat.{ℕ, _+_, _^_, _≤_, _<_, min, max}
+use mathlib.Core.Bool.{Bool, true, false, cond}
 use mathlib.Core.Path.{_≡_, refl, sym, ap, _∙_}
 use mathlib.Core.List.{List, [], _∷_, _++_}
 use mathlib.Core.Option.{Option, none, some}
@@ -9,18 +9,24 @@ use native.Mathlib.Omega.{arith}
 use lib.Dec.{ltb, leb, eqb}
 use lib.ListN.{length, length-append}
 use borrow.Author.Tests.{lt-ltb, le-ltb, lt-leb}
+use Rattle.codec.specs.Bytes.{beOf, beBytes}
+use Rattle.codec.specs.Records as records
+use Rattle.codec.specs.Records.{recordsOf, bytesOf, refcounts}
+use Rattle.codec.specs.Accepted.{inOrder}
 use Rattle.codec.specs.Rmaps as rmap
 use Rattle.codec.specs.Rmaps.{end, before}
-use Rattle.codec.specs.Refcounts.{staging}
+use Rattle.codec.specs.Refcounts.{staging, good, follows}
 use Rattle.codec.specs.declared.rmap.Rmap.{Rmap}
 use Rattle.codec.specs.declared.refcount.Refcount.{Refcount}
+use Rattle.codec.proofs.RecordKinds.{refcounts-lawful}
+use Rattle.codec.proofs.ListBytes.{storable-recordsOf, isBytes-bytesOf}
 use Rattle.lists.specs.declared.splice.Edit.the-variants.{Insert, InsertShared, Remove}
 use Rattle.lists.specs.Extent.{over, within, grow, runs}
 use Rattle.lists.specs.RmapEdits as map
 use Rattle.lists.specs.Release.{owners, stop, release, unshared, piece, share, clamp, meets, fewer, lowered, lowerAll, sameKind, joinFrom, joinAll, continues, joined}
 use Rattle.lists.specs.Edits.{edited}
 use Rattle.lists.specs.Raise.{raised, raiseAll, raise}
-use Rattle.lists.specs.Growth.{met, mostRaised, EveryMapLength, EveryCountsLength}
+use Rattle.lists.specs.Growth.{met, mostRaised, EveryMapLength, Counted, EveryCountsLength}
 use Rattle.lists.specs.inner.Passes.{fresh, next, changed, changeAll, gapOf}
 use Rattle.lists.proofs.Cases.{split, tests}
 use Rattle.lists.proofs.Counts.{From, Accepted, accepted-facts, staging-start}
@@ -118,6 +124,9 @@ step-most : (a z : ℕ) → step a z ≤ 1
 unfolding step
 step-most a z = split (ltb a z) (λ e. rw e (omega arith)) (λ e. rw e (omega arith))
 
+step-later : (a b z : ℕ) → a ≤ b → step b z ≤ step a z
+step-later a b z h = split (ltb b z) (λ e. omega (tests, step-most b z, step-one a z (omega tests))) (λ e. omega (tests, step-none b z (omega tests)))
+
 piece-length : (a z n : ℕ) → length (piece a z n) ≡ step a z
 unfolding piece step
 piece-length a z n = split (ltb a z) (λ e. rw e refl) (λ e. rw e refl)
@@ -135,6 +144,13 @@ fresh-length : (up : Bool) (a z : ℕ) → length (share a z (fresh up)) ≡ con
 unfolding fresh share
 fresh-length true a z = piece-length a z 2
 fresh-length false a z = refl
+
+-- a block e inside the blocks from a up to z leaves a part behind it, and one past z none
+last-part : (a z e : ℕ) → step (max a (min e z)) z + step z e ≤ 1
+last-part a z e =
+    split (ltb e z)
+    (λ p. omega (tests, step-most (max a (min e z)) z, step-none z e (omega tests)))
+    (λ p. omega (tests, step-none (max a (min e z)) z (omega tests), step-most z e))
 
 -- the three parts of the blocks from a up to z, cut at s and e, and whether the cuts are still to come: at most one part more for each cut, of those
 -- that lie past d
@@ -161,19 +177,13 @@ parts a z s e d n h k =
       step-none z s (omega tests),
       step-none z e (omega tests),
     ))
-    (λ q. omega (tests, front (omega tests), step-most (max a (min s z)) (max a (min e z)), behind, step-none z s (omega tests), step-one d e (omega tests))))
+    (λ q. omega (tests, front (omega tests), step-most (max a (min s z)) (max a (min e z)), last-part a z e, step-none z s (omega tests), step-one d e (omega tests))))
   where
     front : s < z → step a (max a (min s z)) ≤ step d s
     front l =
         split (ltb a s)
         (λ p. omega (tests, step-most a (max a (min s z)), step-one d s (omega tests)))
         (λ p. omega (tests, step-none a (max a (min s z)) (omega tests)))
-
-    behind : step (max a (min e z)) z + step z e ≤ 1
-    behind =
-        split (ltb e z)
-        (λ p. omega (tests, step-most (max a (min e z)) z, step-none z e (omega tests)))
-        (λ p. omega (tests, step-none (max a (min e z)) z (omega tests), step-most z e))
 
 changed-parts : (up : Bool) (s e : ℕ) (r : Refcount)
     → length (changed up s e r) ≤ step (r .startblock) (clamp r s) + (step (clamp r s) (clamp r e) + step (clamp r e) (stop r))
@@ -278,10 +288,7 @@ ends s e gap a z n l h p q met =
         (λ k. omega (tests, step-none (max a (min s z)) (max a (min e z)) (omega tests)))
 
     behind : step (max a (min e z)) z + step (max gap z) e ≤ 1
-    behind =
-        split (ltb e z)
-        (λ k. omega (tests, step-most (max a (min e z)) z, step-none (max gap z) e (omega tests)))
-        (λ k. omega (tests, step-none (max a (min e z)) z (omega tests), step-most (max gap z) e))
+    behind = omega (arith, last-part a z e, step-later z (max gap z) e (omega arith))
 
 -- a raise by the records met: where a record begins before the extent or ends behind it, there is a cut and no gap
 raised-length : (s e d gap : ℕ) (l : List Refcount) → s ≤ e → e ≤ 2 ^ 31 → s ≤ gap → gap ≤ max s d → From d l
@@ -356,3 +363,10 @@ raise-longest : (length (raise 2 8 (countOf 0 4 2 ∷ countOf 6 4 2 ∷ [])) ≡
     × (2 + length (unshared (countOf 0 4 2 ∷ countOf 6 4 2 ∷ []) 2 6) ≡ met 2 8 (countOf 0 4 2 ∷ countOf 6 4 2 ∷ []) + 1)
 unfolding staging over within grow runs owners piece clamp sameKind continues joinFrom joinAll raised raiseAll met
 raise-longest = (refl, refl)
+
+-- the law on the first of them
+release-counted : Counted (recordsOf refcounts (bytesOf refcounts (countOf 0 10 3 ∷ []))) 2 4
+unfolding beOf beBytes records.fieldsOf records.fieldBytes records.firstRecords records.recordsOf records.bytesOf inOrder staging good follows
+release-counted =
+    counts-length (recordsOf refcounts (bytesOf refcounts (countOf 0 10 3 ∷ []))) 2 4
+    (storable-recordsOf refcounts refcounts-lawful (bytesOf refcounts (countOf 0 10 3 ∷ [])) (isBytes-bytesOf refcounts refcounts-lawful (countOf 0 10 3 ∷ []))) refl (omega arith)
