@@ -74,6 +74,7 @@ fn run(args: &[String], out: &mut dyn Write) -> Result<(), Box<dyn Error>> {
 #[cfg(test)]
 mod tests {
     use super::*;
+    use kf::Tree;
 
     const SMALL: &str = concat!(env!("CARGO_MANIFEST_DIR"), "/data/v5-1024-small.case");
     const LARGE: &str = concat!(env!("CARGO_MANIFEST_DIR"), "/data/v5-2048.case");
@@ -92,6 +93,58 @@ mod tests {
         for (i, line) in out.lines().enumerate() {
             assert_eq!(line, if i % 3 == 0 { large } else { small });
         }
+    }
+
+    /// Eight groups of one volume, each with the lists of a real group, built at
+    /// the blocks of that group's trees.
+    #[test]
+    fn a_volume() {
+        let real = Case::read(SMALL).unwrap();
+        let dir = std::env::temp_dir().join(format!("kf-volume-{}", std::process::id()));
+        std::fs::create_dir_all(&dir).unwrap();
+        let mut args = Vec::new();
+        for agno in 0..8 {
+            let file = dir.join(format!("{agno}.case"));
+            std::fs::write(&file, with_agno(&real, agno)).unwrap();
+            args.push(file.display().to_string());
+        }
+        let mut out = Vec::new();
+        run(&args, &mut out).unwrap();
+        std::fs::remove_dir_all(&dir).unwrap();
+        let due: String = (0..8)
+            .map(|n| format!("group {n}: reverse map 90 records, shared counts 30 records\n"))
+            .collect();
+        assert_eq!(String::from_utf8(out).unwrap(), due);
+    }
+
+    /// A case file of the same lists in another group.
+    fn with_agno(case: &Case, agno: u32) -> String {
+        let (old, g) = (&case.geometry, case.geometry.with_agno(agno));
+        let hex = |b: &[u8]| -> String { b.iter().map(|b| format!("{b:02x}")).collect() };
+        let mut text = format!(
+            "version {}\nblocksize {}\nagblocks {}\nagno {agno}\nuuid {}\n",
+            g.version,
+            g.blocksize,
+            g.agblocks,
+            hex(&g.meta_uuid)
+        );
+        let tree = |kind| Tree::walk(old, kind, &case.image, case.root(kind).unwrap()).unwrap();
+        let (map, counts) = (tree(Kind::Rmap), tree(Kind::Refcount));
+        let group = Group::new(map.records, counts.records);
+        for (name, kind, blocks) in [
+            ("rmap", Kind::Rmap, map.blocks),
+            ("refcount", Kind::Refcount, counts.blocks),
+        ] {
+            let plan = group.plan(&g, kind).unwrap();
+            let numbers = &blocks[..plan.total as usize];
+            let root = plan.root(numbers).unwrap();
+            text += &format!("tree {name} root {} levels {}\n", root.root, root.levels);
+            let built = group.build(&g, kind, numbers).unwrap();
+            for (n, block) in numbers.iter().zip(built.chunks(g.blocksize as usize)) {
+                text += &format!("block {n} {}\n", hex(block));
+            }
+        }
+        text
     }
 
     #[test]

@@ -210,7 +210,9 @@ fn build_both(
         let numbers = numbers(plan.total.try_into()?, blocks, &mut spare)
             .map_err(|e| format!("{kind}: {e}"))?;
         let built = group.build(g, kind, &numbers)?;
-        store(&mut copy, g.blocksize as usize, &numbers, &built)?;
+        for (&n, block) in numbers.iter().zip(built.chunks_exact(g.blocksize as usize)) {
+            case::put(&mut copy, n, block)?;
+        }
         let (now, before) = (numbers.len(), blocks.len());
         let left = before.saturating_sub(now);
         writeln!(
@@ -236,21 +238,6 @@ fn numbers(
         n if n < planned => Err(format!("{planned} blocks are needed, {n} are there")),
         _ => Ok(numbers),
     }
-}
-
-/// Stores built blocks at their numbers.
-fn store(image: &mut Vec<u8>, size: usize, numbers: &[u32], built: &[u8]) -> Result<(), String> {
-    for (&n, block) in numbers.iter().zip(built.chunks_exact(size)) {
-        let at = n as usize * size;
-        if image.len() < at + size {
-            let more = at + size - image.len();
-            let none = |_| format!("block {n}: no memory for an image as long as that");
-            image.try_reserve(more).map_err(none)?;
-            image.resize(at + size, 0);
-        }
-        image[at..at + size].copy_from_slice(block);
-    }
-    Ok(())
 }
 
 #[cfg(test)]

@@ -1,6 +1,7 @@
 //! The layer over vectors, `kf::Group` and `kf::Tree`, beside the original with
-//! as much memory as it may want: the same lists, blocks and free extents, or
-//! the same refusal, which is never 12, 18 or 26.
+//! as much memory as it may want (a walk with what the layer has room for): the
+//! same lists, blocks and free extents, or the same refusal, which is never 12,
+//! 18 or 26.
 
 use crate::edits;
 use crate::held;

@@ -111,16 +111,21 @@ impl Case {
         if n >= self.geometry.agblocks {
             return Err(format!("block {n} is not in the group"));
         }
-        let at = n as usize * size;
-        if self.image.len() < at + size {
-            let more = at + size - self.image.len();
-            let none = |_| format!("block {n}: no memory for an image as long as that");
-            self.image.try_reserve(more).map_err(none)?;
-            self.image.resize(at + size, 0);
-        }
-        self.image[at..at + size].copy_from_slice(bytes);
-        Ok(())
+        put(&mut self.image, n, bytes)
     }
+}
+
+/// Stores a block at its number in an image, which gets as long as it has to be.
+pub fn put(image: &mut Vec<u8>, n: u32, block: &[u8]) -> Result<(), String> {
+    let at = n as usize * block.len();
+    let end = at + block.len();
+    if image.len() < end {
+        let none = |_| format!("block {n}: no memory for an image as long as that");
+        image.try_reserve(end - image.len()).map_err(none)?;
+        image.resize(end, 0);
+    }
+    image[at..end].copy_from_slice(block);
+    Ok(())
 }
 
 fn number<N: FromStr>(word: &str) -> Result<N, String> {
