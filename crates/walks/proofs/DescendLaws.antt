@@ -21,7 +21,7 @@ use Rattle.blocks.specs.Check.{checkBlock}
 use Rattle.blocks.proofs.Accepted.{accepted}
 use Rattle.walks.specs.Walk.{Visit, visitOf, Look, bad, good, Trace, run, fit, visits, pointers, Shape, perNode, blockIn, firstPointer, under, lookOf, lookIn}
 use Rattle.walks.specs.Shapes.{shapeOf, numrecsOf}
-use Rattle.walks.specs.inner.Path.{childAt, fanOf, childrenFrom, every, dueIn, pathOf, Opened, withPair, lowOf, Moved}
+use Rattle.walks.specs.Path.{childAt, fanOf, childrenFrom, every, dueIn, pathOf, Opened, withPair, lowOf, Moved}
 use Rattle.walks.specs.declared.visit.Count.{Count}
 use Rattle.walks.specs.inner.WalkState.{seenOf, stepOf, Wrote}
 use Rattle.walks.specs.WalkCall.{walkIn}
@@ -90,15 +90,16 @@ low-node m = ap (λ (t : Bool). cond t 1 (suc m)) (ne-eqb (suc m) 0 (λ e. omega
 pair-node : (p : List ℕ) (block m : ℕ) → withPair p block (suc m) ≡ set (set p (suc m * 2) block) (suc m * 2 + 1) 0
 pair-node p block m = ap (λ (t : Bool). cond t p (set (set p (suc m * 2) block) (suc m * 2 + 1) 0)) (ne-eqb (suc m) 0 (λ e. omega arith))
 
-module _ (s : Shape) (image : List ℕ) where
-  abbrev due : ℕ → ℕ → ℕ → List Visit
-  due = dueIn every s image
+-- children skipped or not: what is under a block is due before what was due
+module _ (keep : List ℕ → ℕ → Bool) (s : Shape) (image : List ℕ) where
+  abbrev dueBy : ℕ → ℕ → ℕ → List Visit
+  dueBy = dueIn keep s image
 
-  -- what is under it is due before what was due
-  pub path-open : (p : List ℕ) (block level levels : ℕ) (below : List Visit) → 18 ≤ length p → levels ≤ 9 → level < levels → Looked s image block level below
-      → below ++ pathOf due p (level + 1) (levels - (level + 1)) ≡ pathOf due (withPair p block level) (lowOf level) (levels - lowOf level)
-  path-open p block zero levels below h few k l = ap (λ (x : List Visit). x ++ pathOf due p 1 (levels - 1)) (l .leaf refl)
-  path-open p block (suc m) levels below h few k l =
+  pub path-with : (p : List ℕ) (block level levels : ℕ) (below : List Visit) → 18 ≤ length p → levels ≤ 9 → level < levels → (level ≡ 0 → below ≡ [])
+      → (0 < level → below ≡ dueBy level block 0)
+      → below ++ pathOf dueBy p (level + 1) (levels - (level + 1)) ≡ pathOf dueBy (withPair p block level) (lowOf level) (levels - lowOf level)
+  path-with p block zero levels below h few k leaf node = ap (λ (x : List Visit). x ++ pathOf dueBy p 1 (levels - 1)) (leaf refl)
+  path-with p block (suc m) levels below h few k leaf node =
       let level : ℕ = suc m in
       let q : List ℕ = set p (level * 2) block in
       let r : List ℕ = set q (level * 2 + 1) 0 in
@@ -106,17 +107,26 @@ module _ (s : Shape) (image : List ℕ) where
       let d : level * 2 ≡ level * 2 + 1 → ⊥ = omega arith in
       let b : getD r (level * 2) 0 ≡ block = getD-set-other q (level * 2 + 1) (level * 2) 0 0 d ∙ getD-set-same p (level * 2) block 0 (omega arith) in
       let i : getD r (level * 2 + 1) 0 ≡ 0 = getD-set-same q (level * 2 + 1) 0 0 (omega arith) in
+      ap₂ (λ (x y : List Visit). x ++ y) (node (omega arith) ∙ sym (ap₂ (dueBy level) b i))
+      (ap (λ (x : ℕ). pathOf dueBy p x (levels - x)) (add-one level)
+      ∙ sym (path-below dueBy q (level * 2 + 1) 0 (suc level) (levels - suc level) (omega arith) ∙ path-below dueBy p (level * 2) block (suc level) (levels - suc level) (omega arith)))
+      ∙ sym (path-cons dueBy r level levels k)
+      ∙ sym (ap₂ (λ (x : List ℕ) (y : ℕ). pathOf dueBy x y (levels - y)) (pair-node p block m) (low-node m))
+
+-- in a walk
+module _ (s : Shape) (image : List ℕ) where
+  abbrev due : ℕ → ℕ → ℕ → List Visit
+  due = dueIn every s image
+
+  pub path-open : (p : List ℕ) (block level levels : ℕ) (below : List Visit) → 18 ≤ length p → levels ≤ 9 → level < levels → Looked s image block level below
+      → below ++ pathOf due p (level + 1) (levels - (level + 1)) ≡ pathOf due (withPair p block level) (lowOf level) (levels - lowOf level)
+  path-open p block level levels below h few k l =
       let part : List ℕ = blockIn (s .size) image block in
       let z : firstPointer s ≡ firstPointer s + 0 * 4 = omega arith in
       let all : fanOf part ≡ fanOf part - 0 = omega arith in
-      let e : below ≡ due level block 0 =
-      l .node (omega arith) ∙ ap (λ (x : ℕ). pointers part x (level - 1) (fanOf part)) z ∙ sym (children-all s part (level - 1) 0 (fanOf part))
-      ∙ ap (childrenFrom (every part) s part (level - 1) 0) all in
-      ap₂ (λ (x y : List Visit). x ++ y) (e ∙ sym (ap₂ (due level) b i))
-      (ap (λ (x : ℕ). pathOf due p x (levels - x)) (add-one level)
-      ∙ sym (path-below due q (level * 2 + 1) 0 (suc level) (levels - suc level) (omega arith) ∙ path-below due p (level * 2) block (suc level) (levels - suc level) (omega arith)))
-      ∙ sym (path-cons due r level levels k)
-      ∙ sym (ap₂ (λ (x : List ℕ) (y : ℕ). pathOf due x y (levels - y)) (pair-node p block m) (low-node m))
+      path-with every s image p block level levels below h few k (l .leaf)
+      (λ up. l .node up ∙ ap (λ (x : ℕ). pointers part x (level - 1) (fanOf part)) z ∙ sym (children-all s part (level - 1) 0 (fanOf part))
+      ∙ ap (childrenFrom (every part) s part (level - 1) 0) all)
 
 -- level, or above it
 by-level : (P : ℕ → Type 0) (level l : ℕ) → level ≤ l → P level → (level < l → P l) → P l
@@ -170,9 +180,10 @@ module _ (s : Shape) (image : List ℕ) where
             (λ e. rw (blocks x, getD-set-other p (level * 2 + 1) (x * 2 + 1) v 0 (let z : x * 2 + 1 ≡ level * 2 + 1 → ⊥ = omega arith in z)) (o .next x (omega arith) j));
       }
 
-  pub opened-moved : {due : ℕ → ℕ → ℕ → List Visit} (p p′ : List ℕ) (b level low levels : ℕ) → Opened s image p low levels → Moved due fan b level low levels p p′ → Opened s image p′ (level + 1) levels
+  pub opened-moved : (p p′ : List ℕ) (b level low levels : ℕ) → Opened s image p low levels → Moved s image b level low levels p p′ → Opened s image p′ (level + 1) levels
   opened-moved p p′ b level low levels o m =
-      subst (λ (q : List ℕ). Opened s image q (level + 1) levels) (sym (m .stored)) (moved-set p (m .next) (level + 1) low levels (m .least) (m .inside) (m .within) o)
+      subst (λ (q : List ℕ). Opened s image q (level + 1) levels) (sym (m .stored))
+      (moved-set p (getD p ((level + 1) * 2 + 1) 0 + 1) (level + 1) low levels (m .least) (m .inside) (omega (arith, m .one-left)) o)
 
 -- ---- the walk
 

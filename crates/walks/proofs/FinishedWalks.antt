@@ -18,7 +18,7 @@ use Rattle.walks.specs.Forest.{blocksIn, bytesIn, through, ReadTree, Eve
 use Rattle.walks.proofs.ForestLaws.{Finished, forest-of, walk-whole, through-visits, through-records}
 
 -- a walk that finished with lists of so many places and bytes is the walk without them
-fit-finished : (p r : ℕ) (t : Trace) → ending (fit p r t) ≡ finished → (fit p r t ≡ t) × Finished t
+pub fit-finished : (p r : ℕ) (t : Trace) → ending (fit p r t) ≡ finished → (fit p r t ≡ t) × Finished t
 unfolding fit ending
 fit-finished p r finished e = (refl, tt)
 fit-finished p r spent e = let z : _≡_ {A = ℕ} 0 1 = cc in absurd (omega arith)

@@ -4,12 +4,13 @@ use Prim.Native.Nat.{ℕ, zero, suc, _+_, _-_, _*_, _≤_, _<_, _^_}
 use native.Mathlib.Nat.{mul-le-mul, mul-add, add-mul, one-mul, le-refl}
 use native.Mathlib.Numerals.{add-one}
 use native.Mathlib.Omega.{arith}
-use mathlib.Core.Path.{_≡_, refl, sym, ap, ap₂, _∙_}
+use native.Mathlib.Decide.{decLt}
+use mathlib.Core.Path.{_≡_, refl, sym, ap, ap₂, _∙_, subst}
 use mathlib.Core.Bool.{Bool, true, false, cond}
 use mathlib.Core.List.{List, [], _∷_, _++_}
 use lib.ListN.{length, getD, set}
 use lib.Seq.{getD-set-same, getD-set-other}
-use Rattle.codec.specs.Bytes.{bytesAt, beOf}
+use Rattle.codec.specs.Bytes.{bytesAt}
 use Rattle.codec.proofs.Parts.{bytesAt-bytesAt}
 use Rattle.blocks.specs.declared.geometry.Geometry.{Geometry}
 use Rattle.blocks.specs.declared.kind.TreeKind.{TreeKind}
@@ -18,48 +19,7 @@ use Rattle.blocks.specs.Tree.{headerLen, keysLen}
 use Rattle.blocks.proofs.Laws.{places-fit, header-fits, blocksize-within}
 use Rattle.walks.specs.Walk.{Visit, visitOf, Shape, perNode, blockIn, firstPointer}
 use Rattle.walks.specs.Shapes.{shapeOf}
-use Rattle.walks.specs.inner.Path.{childAt, fanOf, childrenFrom, firstKept, every, dueIn, pathOf, Moved}
-
--- ---- children that are kept
-
--- where none is left out, it is the i-th
-pub first-every : (part : List ℕ) (i k : ℕ) → i ≡ firstKept (every part) i k
-unfolding firstKept
-first-every part i zero = refl
-first-every part i (suc k) = refl
-
-module _ (keep : ℕ → Bool) (s : Shape) (part : List ℕ) (level : ℕ) where
-  abbrev from : ℕ → ℕ → List Visit
-  from i k = childrenFrom keep s part level i k
-
-  -- the first that is kept, and those after it
-  pub children-kept : (k i j : ℕ) → j ≡ firstKept keep i k → j < i + k → from i k ≡ childAt s part level j ∷ from (suc j) (i + k - suc j)
-  unfolding childrenFrom firstKept
-  children-kept zero i j e h = absurd (omega arith)
-  children-kept (suc k) i j e h = go (keep i) refl e (λ q m. children-kept k (suc i) j q m)
-    where
-      later : List Visit
-      later = childAt s part level j ∷ from (suc j) (i + suc k - suc j)
-
-      go : (t : Bool) → keep i ≡ t → j ≡ cond t i (firstKept keep (suc i) k)
-          → (j ≡ firstKept keep (suc i) k → j < suc i + k → from (suc i) k ≡ childAt s part level j ∷ from (suc j) (suc i + k - suc j))
-          → cond t (childAt s part level i ∷ from (suc i) k) (from (suc i) k) ≡ later
-      go true p q rec =
-          let z : k ≡ i + suc k - suc j = omega arith in
-          ap₂ (λ (x y : ℕ). childAt s part level x ∷ from (suc x) y) (sym q) z
-      go false p q rec =
-          let z : suc i + k - suc j ≡ i + suc k - suc j = omega arith in
-          rec q (omega arith) ∙ ap (λ (x : ℕ). childAt s part level j ∷ from (suc j) x) z
-
-  pub children-none : (k i j : ℕ) → j ≡ firstKept keep i k → i + k ≤ j → from i k ≡ []
-  unfolding childrenFrom firstKept
-  children-none zero i j e h = refl
-  children-none (suc k) i j e h = go (keep i) refl e (λ q m. children-none k (suc i) j q m)
-    where
-      go : (t : Bool) → keep i ≡ t → j ≡ cond t i (firstKept keep (suc i) k) → (j ≡ firstKept keep (suc i) k → suc i + k ≤ j → from (suc i) k ≡ [])
-          → cond t (childAt s part level i ∷ from (suc i) k) (from (suc i) k) ≡ []
-      go true p q rec = absurd (omega arith)
-      go false p q rec = rec q (omega arith)
+use Rattle.walks.specs.Path.{childAt, fanOf, childrenFrom, dueIn, fanIn, pathOf, NoneLeft, Moved}
 
 -- ---- a field of a block of an image
 
@@ -111,80 +71,85 @@ module _ (due : ℕ → ℕ → ℕ → List Visit) where
   unfolding pathOf
   path-end p level levels h = let e : levels - level ≡ 0 = omega arith in rw e
 
-  pub path-skip : (p : List ℕ) (level levels : ℕ) → level < levels → due level (getD p (level * 2) 0) (getD p (level * 2 + 1) 0) ≡ []
-      → pathOf due p level (levels - level) ≡ pathOf due p (level + 1) (levels - (level + 1))
-  path-skip p level levels h e =
-      path-cons p level levels h
-      ∙ ap (λ (l : List Visit). l ++ pathOf due p (suc level) (levels - suc level)) e
-      ∙ ap (λ (x : ℕ). pathOf due p x (levels - x)) (sym (add-one level))
+  -- nor do levels that have nothing due count
+  pub path-skip : (p : List ℕ) (d low levels : ℕ) → low + d ≤ levels
+      → ((l : ℕ) → low ≤ l → l < low + d → due l (getD p (l * 2) 0) (getD p (l * 2 + 1) 0) ≡ [])
+      → pathOf due p low (levels - low) ≡ pathOf due p (low + d) (levels - (low + d))
+  path-skip p zero low levels h none = let e : low ≡ low + 0 = omega arith in ap (λ (x : ℕ). pathOf due p x (levels - x)) e
+  path-skip p (suc d) low levels h none =
+      let e : suc low + d ≡ low + suc d = omega arith in
+      path-cons p low levels (omega arith)
+      ∙ ap (λ (l : List Visit). l ++ pathOf due p (suc low) (levels - suc low)) (none low (omega arith) (omega arith))
+      ∙ path-skip p d (suc low) levels (omega arith) (λ l a b. none l (omega arith) (omega arith))
+      ∙ ap (λ (x : ℕ). pathOf due p x (levels - x)) e
 
-  -- the first of a pair's children taken away
-  pub path-take : (p : List ℕ) (level levels x : ℕ) (v : Visit) → level < levels → level * 2 + 1 < length p
-      → due level (getD p (level * 2) 0) (getD p (level * 2 + 1) 0) ≡ v ∷ due level (getD p (level * 2) 0) x
-      → pathOf due p level (levels - level) ≡ v ∷ pathOf due (set p (level * 2 + 1) x) level (levels - level)
-  path-take p level levels x v h long e =
+  -- a pair with a later child
+  pub path-set : (p : List ℕ) (level levels x : ℕ) → level < levels → level * 2 + 1 < length p
+      → due level (getD p (level * 2) 0) x ++ pathOf due p (suc level) (levels - suc level) ≡ pathOf due (set p (level * 2 + 1) x) level (levels - level)
+  path-set p level levels x h long =
       let p′ : List ℕ = set p (level * 2 + 1) x in
       let d : level * 2 ≡ level * 2 + 1 → ⊥ = omega arith in
-      path-cons p level levels h
-      ∙ ap (λ (l : List Visit). l ++ pathOf due p (suc level) (levels - suc level)) e
-      ∙ ap (λ (l : List Visit). v ∷ l)
-      (ap₂ (λ (l m : List Visit). l ++ m)
+      ap₂ (λ (l m : List Visit). l ++ m)
       (ap₂ (due level) (sym (getD-set-other p (level * 2 + 1) (level * 2) x 0 d)) (sym (getD-set-same p (level * 2 + 1) x 0 long)))
       (sym (path-below p (level * 2 + 1) x (suc level) (levels - suc level) (omega arith)))
-      ∙ sym (path-cons p′ level levels h))
+      ∙ sym (path-cons p′ level levels h)
 
--- ---- a turn of advance
+-- no child is left on one level more
+pub none-left-next : (size : ℕ) (image p : List ℕ) (low level : ℕ) → NoneLeft size image p low level → fanIn size image (getD p (level * 2) 0) ≤ getD p (level * 2 + 1) 0
+    → NoneLeft size image p low (level + 1)
+none-left-next size image p low level gone here l a b =
+    elim (decLt l level) [ yes q ↦ gone l a q | no q ↦ subst (λ (x : ℕ). fanIn size image (getD p (x * 2) 0) ≤ getD p (x * 2 + 1) 0) (let e : level ≡ l = omega (arith, b, q) in e) here ]
 
-module _ (keep : List ℕ → ℕ → Bool) (s : Shape) (image : List ℕ) (level block i j : ℕ) where
-  abbrev part : List ℕ
-  part = blockIn (s .size) image block
+-- ---- children skipped or not
 
-  pub due-none : j ≡ firstKept (keep part) i (fanOf part - i) → fanOf part ≤ j → i ≤ fanOf part → dueIn keep s image level block i ≡ []
-  due-none e h k = children-none (keep part) s part (level - 1) (fanOf part - i) i j e (omega arith)
+-- v before l, where it is kept
+abbrev pub kept : Bool → Visit → List Visit → List Visit
+kept b v l = cond b (v ∷ l) l
 
-  pub due-kept : j ≡ firstKept (keep part) i (fanOf part - i) → j < fanOf part → i ≤ fanOf part
-      → dueIn keep s image level block i ≡ childAt s part (level - 1) j ∷ dueIn keep s image level block (j + 1)
-  due-kept e h k =
-      let z : i + (fanOf part - i) - suc j ≡ fanOf part - (j + 1) = omega arith in
-      children-kept (keep part) s part (level - 1) (fanOf part - i) i j e (omega arith)
-      ∙ ap₂ (λ (x y : ℕ). childAt s part (level - 1) j ∷ childrenFrom (keep part) s part (level - 1) x y) (sym (add-one j)) z
-
--- what advance keeps: the levels below have nothing due
-module _ (keep : List ℕ → ℕ → Bool) (s : Shape) (image p : List ℕ) (low levels level : ℕ) where
+module _ (keep : List ℕ → ℕ → Bool) (s : Shape) (image : List ℕ) where
   abbrev due : ℕ → ℕ → ℕ → List Visit
   due = dueIn keep s image
 
-  abbrev block : ℕ
-  block = getD p (level * 2) 0
+  abbrev part : ℕ → List ℕ
+  part block = blockIn (s .size) image block
 
-  abbrev i : ℕ
-  i = getD p (level * 2 + 1) 0
+  due-none : (level block i : ℕ) → fanOf (part block) ≤ i → due level block i ≡ []
+  unfolding childrenFrom
+  due-none level block i h = let z : fanOf (part block) - i ≡ 0 = omega arith in rw z
 
-  abbrev node : List ℕ
-  node = blockIn (s .size) image block
+  due-next : (level block i : ℕ) → i < fanOf (part block)
+      → due level block i ≡ kept (keep (part block) i) (childAt s (part block) (level - 1) i) (due level block (i + 1))
+  unfolding childrenFrom
+  due-next level block i h =
+      let z : fanOf (part block) - i ≡ suc (fanOf (part block) - suc i) = omega arith in
+      ap (childrenFrom (keep (part block)) s (part block) (level - 1) i) z
+      ∙ ap (λ (x : ℕ). kept (keep (part block) i) (childAt s (part block) (level - 1) i) (due level block x)) (sym (add-one i))
 
-  abbrev pub Coming : ℕ → Type 0
-  Coming l = pathOf due p low (levels - low) ≡ pathOf due p l (levels - l)
+  kept-append : (b : Bool) (v : Visit) (l m : List Visit) → kept b v l ++ m ≡ kept b v (l ++ m)
+  kept-append true v l m = refl
+  kept-append false v l m = refl
 
-  pub coming-next : (j : ℕ) → level < levels → i ≤ fanOf node → j ≡ firstKept (keep node) i (fanOf node - i) → fanOf node ≤ j → Coming level → Coming (level + 1)
-  coming-next j h k e f w = w ∙ path-skip due p level levels h (due-none keep s image level block i j e f k)
+  -- where no child is left nothing is due
+  pub path-none-left : (p : List ℕ) (low levels : ℕ) → low ≤ levels → NoneLeft (s .size) image p low levels → pathOf due p low (levels - low) ≡ []
+  path-none-left p low levels h gone =
+      let e : low + (levels - low) ≡ levels = omega arith in
+      path-skip due p (levels - low) low levels (omega arith) (λ l a b. due-none l (getD p (l * 2) 0) (getD p (l * 2 + 1) 0) (gone l a (omega arith)))
+      ∙ path-end due p (low + (levels - low)) levels (omega arith)
 
-  pub coming-found : (j b : ℕ) → low ≤ level → 1 ≤ level → level < levels → level * 2 + 1 < length p → i ≤ fanOf node → j ≡ firstKept (keep node) i (fanOf node - i) → j < fanOf node
-      → b ≡ beOf (bytesAt node (firstPointer s + j * 4) 4) → b < 2 ^ 32 → Coming level
-      → Moved due (λ x. fanOf (blockIn (s .size) image x)) b (level - 1) low levels p (set p (level * 2 + 1) (j + 1))
-  coming-found j b l o h long k e f q small w =
-      let up : level - 1 + 1 ≡ level = omega arith in
-      let p′ : List ℕ = set p (level * 2 + 1) (j + 1) in
-      let v : Visit = childAt s node (level - 1) j in
-      record {
-        small = small;
-        next = j + 1;
-        stored = ap (λ (x : ℕ). set p (x * 2 + 1) (j + 1)) (sym up);
-        within = rw up (omega arith);
-        least = rw up l;
-        inside = rw up h;
-        path =
-            w
-            ∙ path-take due p level levels (j + 1) v h long (due-kept keep s image level block i j e f k)
-            ∙ ap₂ (λ (x y : ℕ). visitOf x (level - 1) ∷ pathOf due p′ y (levels - y)) (sym q) (sym up);
-      }
+  -- a child that is taken was the first that is due, unless it is skipped
+  pub path-moved : (p p′ : List ℕ) (block level low levels : ℕ) → 18 ≤ length p → levels ≤ 9 → Moved s image block level low levels p p′
+      → pathOf due p low (levels - low)
+      ≡ kept (keep (part (getD p ((level + 1) * 2) 0)) (getD p ((level + 1) * 2 + 1) 0)) (visitOf block level) (pathOf due p′ (level + 1) (levels - (level + 1)))
+  path-moved p p′ block level low levels long few m =
+      let up : ℕ = level + 1 in
+      let at : low + (up - low) ≡ up = omega (arith, m .least) in
+      let b : ℕ = getD p (up * 2) 0 in
+      let i : ℕ = getD p (up * 2 + 1) 0 in
+      let k : Bool = keep (part b) i in
+      let above : List Visit = pathOf due p (suc up) (levels - suc up) in
+      path-skip due p (up - low) low levels (omega (arith, m .inside)) (λ l a c. due-none l (getD p (l * 2) 0) (getD p (l * 2 + 1) 0) (m .none-left l a (omega arith)))
+      ∙ ap (λ (x : ℕ). pathOf due p x (levels - x)) at
+      ∙ path-cons due p up levels (m .inside)
+      ∙ ap (λ (l : List Visit). l ++ above) (due-next up b i (m .one-left))
+      ∙ kept-append k (childAt s (part b) (up - 1) i) (due up b (i + 1)) above
+      ∙ ap₂ (kept k) (sym (m .child)) (path-set due p up levels (i + 1) (m .inside) (omega (arith, m .inside)) ∙ ap (λ (q : List ℕ). pathOf due q up (levels - up)) (sym (m .stored)))

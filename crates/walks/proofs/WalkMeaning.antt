@@ -130,7 +130,7 @@ module _ (g : Geometry) (kind : TreeKind) (image : List ℕ) (ok : geometryOk g 
       (d .numrecs, cc)
   under-whole block (suc level) part d l e below bytes h = let z : [] ≡ bytes = cc in (0, sym (ap length z) ∙ sym (zero-mul (recordLen kind)))
 
-  look-whole : (v : Visit) (below : List Visit) (bytes : List ℕ) → lookIn (shapeOf g kind) image v ≡ good below bytes → (n : ℕ) × (length bytes ≡ n * recordLen kind)
+  pub look-whole : (v : Visit) (below : List Visit) (bytes : List ℕ) → lookIn (shapeOf g kind) image v ≡ good below bytes → (n : ℕ) × (length bytes ≡ n * recordLen kind)
   unfolding lookIn
   look-whole v below bytes h = outer (leb ((v .block + 1) * g .blocksize) (length image)) refl h
     where

@@ -1,5 +1,6 @@
 -- In reading order: a walk over any way to look at a block, the look at a block of a group, what a call comes to and leaves, whether every level is linked,
--- and what a walk means. `inner` is what the functions of this crate promise one another: no other crate names it.
+-- what a walk means, what is asked first, and the blocks that are due as nine pairs. `inner` is what the functions of this crate promise one another: no other
+-- crate names it.
 pub mod Memory
 pub mod Walk
 pub mod Shapes
@@ -7,4 +8,6 @@ pub mod WalkCall
 pub mod WalkAnswer
 pub mod Links
 pub mod Forest
+pub mod First
+pub mod Path
 pub mod inner

@@ -25,6 +25,11 @@ pub data Look : Type 0 where
   bad : ℕ → Values → Look
   good : List Visit → List ℕ → Look
 
+-- the records' bytes that it finds
+abbrev pub bytesFound : Look → List ℕ
+bytesFound (bad n x) = []
+bytesFound (good below bytes) = bytes
+
 -- a walk: each block that was read, with its records' bytes, and how it ended.
 -- `finished`: nothing is due any more; `spent`: a block is due and the visits are used up; `failed`: a block was refused.
 pub data Trace : Type 0 where

@@ -1,3 +1,2 @@
 pub mod WalkState
-pub mod Path
 pub mod Chains

@@ -1,4 +1,4 @@
-// The blocks that are due in a walk, kept as nine pairs: for each level a block and its next child. A node is not checked again when the walk comes back to
+// The blocks that are due in a walk or a lookup, kept as nine pairs: for each level a block and its next child. A node is not checked again when the walk comes back to
 // it: the image is lent for reading, so its count and pointers are still those that passed.
 ghost use mathlib.Core.Path.{_≡_};
 ghost use mathlib.Core.Bool.{true};
@@ -7,7 +7,7 @@ ghost use lib.ListN.{length};
 ghost use Rattle.blocks.specs.Geometry.{geometryOk};
 ghost use Rattle.walks.specs.Walk.{blockIn, perNode, firstPointer};
 ghost use Rattle.walks.specs.Shapes.{shapeOf};
-ghost use Rattle.walks.specs.inner.Path.{childAt, fanOf, every, dueIn, fanIn, Opened, withPair, lowOf, Advanced};
+ghost use Rattle.walks.specs.Path.{childAt, fanOf, Opened, withPair, lowOf, Advanced};
 use blocks::geometry::Geometry;
 use blocks::kind::PTR_LEN;
 use blocks::kind::TreeKind;
@@ -18,7 +18,7 @@ use codec::endian::be16;
 use codec::endian::be32;
 
 // The next block due, or none.
-pub(crate) enum Next {
+pub enum Next {
     Block { block: u32, level: u32 },
     Nothing,
 }
@@ -32,8 +32,8 @@ fn fan(g: Geometry, image: &[u8], block: u32) -> usize
     be16(image, at + NUMRECS) as usize
 }
 
-// Where the pointers of a node begin: after room for the capacity's keys. It is worked out once for a walk, since it takes a division.
-pub(crate) fn first_pointer(g: Geometry, kind: TreeKind) -> usize
+// Where the pointers of a node begin: after room for the capacity's keys. It is worked out once for a descent, since it takes a division.
+pub fn first_pointer(g: Geometry, kind: TreeKind) -> usize
     requires { ⌜ geometryOk g ≡ true ⌝ }
     ensures { λ r. ⌜ r ≡ firstPointer (shapeOf g kind) ⌝ }
 {
@@ -53,7 +53,7 @@ fn child(g: Geometry, kind: TreeKind, image: &[u8], first: usize, block: u32, i:
 }
 
 // A block's own pair, where it is a node; says the lowest level that has a pair.
-pub(crate) fn open(pairs: &mut [u32], block: u32, level: u32) -> u32
+pub fn open(pairs: &mut [u32], block: u32, level: u32) -> u32
     requires { ⌜ (18 ≤ length (now pairs)) × (level < 9) ⌝ }
     ensures { λ r. ⌜ (r ≡ lowOf level) × (now (pairs .exit) ≡ withPair (now (pairs .entry)) block level) ⌝ }
 {
@@ -68,7 +68,7 @@ pub(crate) fn open(pairs: &mut [u32], block: u32, level: u32) -> u32
 
 // The next block due on the pairs from level `low` up, each pair's later children before those above it. Its parent's pair then has the child
 // after it. The pointers of a node begin at `first`.
-pub(crate) fn advance(
+pub fn advance(
     g: Geometry,
     kind: TreeKind,
     image: &[u8],
@@ -79,8 +79,7 @@ pub(crate) fn advance(
 ) -> Next
     requires { ⌜ (geometryOk g ≡ true) × Opened (shapeOf g kind) (now image) (now pairs) low levels ⌝ }
     requires { ⌜ first ≡ firstPointer (shapeOf g kind) ⌝ }
-    ensures { λ r. ⌜ Advanced (dueIn every (shapeOf g kind) (now (image .entry))) (fanIn (g .blocksize) (now (image .entry))) r low levels
-        (now (pairs .entry)) (now (pairs .exit)) ⌝ }
+    ensures { λ r. ⌜ Advanced (shapeOf g kind) (now (image .entry)) r low levels (now (pairs .entry)) (now (pairs .exit)) ⌝ }
 {
     let mut level = low;
     while level < levels {

@@ -1,7 +1,7 @@
 // The walk of a tree over lent memory, left to right and depth first (`EveryWalk` of specs/Forest.antt), and whether its levels are linked.
 ghost use mathlib.Core.Path.{_≡_};
 ghost use mathlib.Core.Bool.{false};
-ghost use Prim.Native.Nat.{_/_, _≤_, _<_, _^_, max};
+ghost use Prim.Native.Nat.{_/_, _≤_, _<_, _^_};
 ghost use lib.ListN.{length, take};
 ghost use Rattle.codec.specs.Bytes.{withBytes};
 ghost use Rattle.codec.specs.Question.{done};
@@ -14,8 +14,12 @@ ghost use Rattle.walks.specs.declared.walk.Walked.the-variants.{Read, Re
 ghost use Rattle.walks.specs.WalkCall.{walkIn, walkOf, lent, report};
 ghost use Rattle.walks.specs.WalkAnswer.{walkedReport, WalkIs};
 ghost use Rattle.walks.specs.Links.{saysLinked, LinkingIs};
-ghost use Rattle.walks.specs.inner.WalkState.{seenOf, left, Begun, FirstIs};
+ghost use Rattle.walks.specs.First.{Begun};
+ghost use Rattle.walks.specs.inner.WalkState.{seenOf, left};
 use crate::by_level::order;
+use crate::first::First;
+use crate::first::ask_first;
+use crate::first::limit_of;
 use crate::links::NOTHING;
 use crate::links::all_linked;
 use crate::links::follow;
@@ -30,12 +34,10 @@ use crate::refusal::WalkRefusal;
 use crate::visit::Count;
 use crate::visit::Step;
 use crate::visit::visit;
-use blocks::check::BlockRefusal;
 use blocks::geometry::AgBlock;
 use blocks::geometry::Geometry;
 use blocks::geometry::NULL_AGBLOCK;
 use blocks::kind::TreeKind;
-use blocks::kind::block_capacity;
 
 // What a walk comes to. `visits` counts the blocks that passed 13; in a finished walk these are the blocks of the block list.
 pub enum Walked {
@@ -205,52 +207,6 @@ fn walk_tree(
     };
     finish(visits, levels as u64, stack, scratch, blocks);
     end
-}
-
-// The visits that a walk may make: max(agblocks, 64).
-fn limit_of(agblocks: u32) -> usize
-    ensures { λ r. ⌜ (r ≡ max agblocks 64) × (r < 2 ^ 63) ⌝ }
-{
-    if agblocks < 64 {
-        return 64;
-    }
-    agblocks as usize
-}
-
-// What the questions before the first visit come to.
-pub(crate) enum First {
-    Ready,
-    Refused(WalkRefusal),
-}
-
-// Questions 1, 11 and 12, of so many places lent.
-fn ask_first(
-    g: Geometry,
-    kind: TreeKind,
-    levels: u32,
-    stack: usize,
-    scratch: usize,
-    blocks: usize,
-) -> First
-    ensures { λ r. ⌜ FirstIs g kind levels stack scratch blocks r ⌝ }
-{
-    if !g.is_ok() {
-        return First::Refused(WalkRefusal::Block(BlockRefusal::BadGeometry));
-    }
-    if levels < 1 {
-        return First::Refused(WalkRefusal::Levels);
-    }
-    if 9 < levels {
-        return First::Refused(WalkRefusal::Levels);
-    }
-    let capacity = block_capacity(kind, g.version, 1, g.blocksize as usize);
-    if stack < 2 * (levels as usize) * capacity {
-        return First::Refused(WalkRefusal::Scratch);
-    }
-    if scratch < blocks {
-        return First::Refused(WalkRefusal::Scratch);
-    }
-    First::Ready
 }
 
 // The walk, and whether every level of the tree is linked. It is lent what `walk` is lent, asks the same and leaves the same.

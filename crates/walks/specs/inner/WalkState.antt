@@ -3,23 +3,17 @@
 use Prim.Native.Nat.{ℕ, _+_, _-_, _*_, _/_, _%_, _^_, _≤_}
 use mathlib.Core.Path.{_≡_}
 use mathlib.Core.List.{List, [], _∷_}
-use mathlib.Core.Bool.{Bool, true, _&&_}
+use mathlib.Core.Bool.{_&&_}
 use lib.ListN.{length, take}
 use lib.Dec.{ltb, leb}
 use Rattle.codec.specs.Bytes.{withBytes}
 use Rattle.codec.specs.Question.{Outcome, done, refused, ask, answer}
-use Rattle.blocks.specs.declared.geometry.Geometry.{Geometry}
-use Rattle.blocks.specs.declared.kind.TreeKind.{TreeKind}
-use Rattle.blocks.specs.Geometry.{geometryOk}
 use Rattle.walks.specs.declared.visit.Count.{Count}
 use Rattle.walks.specs.declared.visit.Step.{Step}
 use Rattle.walks.specs.declared.visit.Step.the-variants.{Next, Stop}
 use Rattle.walks.specs.declared.walk.Walked.{Walked}
 use Rattle.walks.specs.declared.walk.Walked.the-variants.{Read, Refused}
-use Rattle.walks.specs.declared.walk.First.{First}
-use Rattle.walks.specs.declared.walk.First.the-variants as first
-use Rattle.walks.specs.Walk.{Visit, visitOf, Look, bad, good, Trace, visits, records, atLevel}
-use Rattle.walks.specs.WalkCall.{walkQuestions}
+use Rattle.walks.specs.Walk.{Visit, visitOf, Look, bad, good, bytesFound, Trace, visits, records, atLevel}
 use Rattle.walks.specs.WalkAnswer.{walkNumber, walkValues}
 
 -- a visit in one place of the level scratch, and back
@@ -70,38 +64,12 @@ abbrev pub onward : Outcome Count → List ℕ → ℕ → List ℕ → List ℕ
 onward (done m) l at xs = withBytes l at xs
 onward (refused n x) l at xs = l
 
--- the bytes that a look finds
-abbrev pub bytesOf : Look → List ℕ
-bytesOf (bad n x) = []
-bytesOf (good below bytes) = bytes
-
 -- what a visit leaves in the level scratch and the record list
 pub record Wrote (o : Outcome Count) (v : Visit) (l : Look) (c : Count) (scratch scratch′ out out′ : List ℕ) : Type 0 where
   pub noted : scratch′ ≡ onward o scratch (c .visits) (placeOf v ∷ [])
-  pub copied : out′ ≡ onward o out (c .bytes) (bytesOf l)
+  pub copied : out′ ≡ onward o out (c .bytes) (bytesFound l)
 
 -- what a walk that has read its last block leaves in the level scratch and the record list
 abbrev pub left : Walked → Trace → List ℕ → List ℕ → List ℕ → Type 0
 left (Read v n b) t scratch out out′ = (seenOf (take v scratch) ≡ visits t) × (out′ ≡ withBytes out 0 (records t))
 left (Refused r v) t scratch out out′ = Unit {0}
-
--- what holds once 1, 11 and 12 are asked, of a stack and a level scratch of so many places: nine pairs lie on the stack
-pub record Begun (ok : Bool) (levels stack scratch places : ℕ) : Type 0 where
-  pub good : ok ≡ true
-  pub least : 1 ≤ levels
-  pub most : levels ≤ 9
-  pub deep : 18 ≤ stack
-  pub noting : places ≤ scratch
-
--- 1, 11 and 12 come to a refusal, whatever follows them; or they hold
-pub record ReadyIs (g : Geometry) (kind : TreeKind) (levels stack scratch blocks : ℕ) : Type 0 where
-  pub holds : (bytes : ℕ) (o : Outcome Trace)
-      → answer (walkQuestions g kind levels (record { stack = stack; scratch = scratch; blocks = blocks; bytes = bytes })) o ≡ o
-  pub begun : Begun (geometryOk g) levels stack scratch blocks
-
-abbrev pub FirstIs : Geometry → TreeKind → (levels stack scratch blocks : ℕ) → First → Type 0
-FirstIs g kind levels stack scratch blocks (first.Refused r) =
-    (bytes : ℕ) (o : Outcome Trace)
-    → answer (walkQuestions g kind levels (record { stack = stack; scratch = scratch; blocks = blocks; bytes = bytes })) o
-    ≡ refused (walkNumber r) (walkValues r)
-FirstIs g kind levels stack scratch blocks first.Ready = ReadyIs g kind levels stack scratch blocks

@@ -1,4 +1,4 @@
--- `trees::path::advance` meets its contract. The invariant: the pairs are as they were, and the levels below have nothing due.
+-- `walks::path::advance` meets its contract. The invariant: the pairs are as they were, and no child is left on the levels below.
 -- Assumes nothing.
 use mathlib.Core.Path.{_≡_, refl, sym, ap, _∙_, subst}
 use mathlib.Core.List.{List}
@@ -6,16 +6,16 @@ use Prim.Native.Nat.{ℕ, _+_, _-_, _*_, _≤_, _<_}
 use native.Mathlib.Omega.{arith}
 use lib.ListN.{length, set, getD, length-set}
 use Rattle.blocks.proofs.Laws.{capacity-small}
-use Rattle.walks.specs.Walk.{Visit, Shape, blockIn, perNode}
+use Rattle.walks.specs.Walk.{visitOf, Shape, blockIn, perNode}
 use Rattle.walks.specs.Shapes.{shapeOf}
-use Rattle.walks.specs.inner.Path.{fanOf, fanIn, every, dueIn, pathOf, Opened, Moved}
-use Rattle.walks.proofs.PathLaws.{first-every, Coming, coming-next, coming-found, path-end}
+use Rattle.walks.specs.Path.{fanOf, fanIn, Opened, NoneLeft, Moved}
+use Rattle.walks.proofs.PathLaws.{none-left-next}
 use Rattle.walks.proofs.path.advance.Statement.{statement}
 use Rattle.walks.proofs.path.advance.Tie as tie
 
 abbrev Inv-loop : tie.InvT-loop
 Inv-loop g kind image first pairs₀ low levels level₀ pairs level =
-    (low ≤ level) × (pairs ≡ pairs₀) × (level ≤ levels) × Coming every (shapeOf g kind) image pairs low levels level level
+    (low ≤ level) × (pairs ≡ pairs₀) × (level ≤ levels) × NoneLeft (g .blocksize) image pairs low level
 
 abbrev μ-loop : tie.MeasureT-loop
 μ-loop g kind image first pairs₀ low levels level₀ pairs level = levels - level
@@ -43,7 +43,7 @@ found c =
     (c .fan .ensures, opened t .most (l .level) (l .inv .0) (t .loop-test .taken), capacity-small (s .args .g) (s .args .kind) 1 (s .pre .0 .0))
 
 loop-holds : tie.Need-loop-holds Inv-loop μ-loop
-loop-holds c = let s = c .before .before in (omega arith, refl, s .pre .0 .1 .within, refl)
+loop-holds c = let s = c .before .before in (omega arith, refl, s .pre .0 .1 .within, λ l a b. absurd (omega arith))
 
 cast-at : tie.Need-cast-at Inv-loop μ-loop
 cast-at c = omega (arith, long c, opened c .places, opened c .few, c .loop-test .taken)
@@ -118,16 +118,21 @@ returns c =
     let a = t .before .before .before .before .args in
     let sh : Shape = shapeOf (a .g) (a .kind) in
     let o = opened t in
-    let h = t .loop-test .taken in
     let f = found (c .before .before) in
     let i : ℕ = getD (l .pairs) (l .level * 2 + 1) 0 in
     let part : List ℕ = blockIn (a .g .blocksize) (a .image .now) (getD (l .pairs) (l .level * 2) 0) in
-    let small : i < fanOf part = omega (arith, c .before .if1 .taken, f .0) in
-    let least : 1 ≤ l .level = omega (arith, o .above, l .inv .0) in
-    subst (λ (p : List ℕ). Moved (dueIn every sh (a .image .now)) (fanIn (a .g .blocksize) (a .image .now)) (c .child .result) (l .level - 1) (a .low) (a .levels) p (set (l .pairs) (l .level * 2 + 1) (i + 1)))
+    let up : l .level - 1 + 1 ≡ l .level = omega (arith, o .above, l .inv .0) in
+    subst (λ (p : List ℕ). Moved sh (a .image .now) (c .child .result) (l .level - 1) (a .low) (a .levels) p (set (l .pairs) (l .level * 2 + 1) (i + 1)))
     (l .inv .1)
-    (coming-found every sh (a .image .now) (l .pairs) (a .low) (a .levels) (l .level) i (c .child .result) (l .inv .0) least h (long t)
-    (o .next (l .level) (l .inv .0) h) (first-every part i (fanOf part - i)) small (c .child .ensures) (c .child .ok) (l .inv .3))
+    (record {
+      small = c .child .ok;
+      least = rw up (l .inv .0);
+      inside = rw up (t .loop-test .taken);
+      none-left = rw up (l .inv .3);
+      one-left = rw up (let z : i < fanOf part = omega (arith, c .before .if1 .taken, f .0) in z);
+      child = rw up (ap (λ (x : ℕ). visitOf x (l .level - 1)) (c .child .ensures));
+      stored = rw up refl;
+    })
 
 add-level : tie.Need-add-level Inv-loop μ-loop
 add-level c = let t = c .before .before .before .before in omega (arith, opened t .few, t .loop-test .taken)
@@ -140,17 +145,12 @@ loop-again c =
     let t = c .before .before .before .before in
     let l = t .before .loop in
     let a = t .before .before .before .before .args in
-    let sh : Shape = shapeOf (a .g) (a .kind) in
-    let o = opened t in
-    let h = t .loop-test .taken in
     let f = found (c .before) in
-    let i : ℕ = getD (l .pairs) (l .level * 2 + 1) 0 in
-    let part : List ℕ = blockIn (a .g .blocksize) (a .image .now) (getD (l .pairs) (l .level * 2) 0) in
-    let big : fanOf part ≤ i = omega (arith, c .if1 .left, f .0) in (
+    let big : fanIn (a .g .blocksize) (a .image .now) (getD (l .pairs) (l .level * 2) 0) ≤ getD (l .pairs) (l .level * 2 + 1) 0 = omega (arith, c .if1 .left, f .0) in (
       omega (arith, l .inv .0),
       l .inv .1,
       omega arith,
-      coming-next every sh (a .image .now) (l .pairs) (a .low) (a .levels) (l .level) i h (o .next (l .level) (l .inv .0) h) (first-every part i (fanOf part - i)) big (l .inv .3),
+      none-left-next (a .g .blocksize) (a .image .now) (l .pairs) (a .low) (l .level) (l .inv .3) big,
     )
 
 same-length-2 : tie.Need-same-length-2 Inv-loop μ-loop
@@ -160,9 +160,7 @@ returns-2 : tie.Need-returns-2 Inv-loop μ-loop
 returns-2 c =
     let l = c .before .loop in
     let a = c .before .before .before .before .args in
-    let sh : Shape = shapeOf (a .g) (a .kind) in
-    let due : (ℕ → ℕ → ℕ → List Visit) = dueIn every sh (a .image .now) in
-    (ap (λ (p : List ℕ). pathOf due p (a .low) (a .levels - a .low)) (sym (l .inv .1)) ∙ l .inv .3 ∙ path-end due (l .pairs) (l .level) (a .levels) (c .loop-test .left), l .inv .1)
+    (subst (λ (p : List ℕ). NoneLeft (a .g .blocksize) (a .image .now) p (a .low) (a .levels)) (l .inv .1) (λ x h k. l .inv .3 x h (omega (arith, c .loop-test .left))), l .inv .1)
 
 pub advance-spec : {M : Type 1} → statement M
 advance-spec =

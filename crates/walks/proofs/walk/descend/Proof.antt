@@ -19,9 +19,10 @@ use Rattle.walks.specs.Shapes.{shapeOf}
 use Rattle.walks.specs.WalkCall.{walkIn}
 use Rattle.walks.specs.WalkAnswer.{walkedReport}
 use Rattle.walks.specs.Links.{leftsibOf, rightsibOf}
-use Rattle.walks.specs.inner.Path.{every, dueIn, fanIn, pathOf, Opened, withPair, lowOf, Moved, Advanced}
+use Rattle.walks.specs.Path.{every, dueIn, pathOf, Opened, withPair, lowOf, Moved, Advanced}
 use Rattle.walks.specs.inner.WalkState.{stepOutcome, Beside, stepOf, Wrote, left}
 use Rattle.walks.proofs.WalkLaws.{restOf, refused-is, finished-is, Walking, walking-spent, walking-stop, walking-ended, walking-seen, walking-read, step-count, end-whole}
+use Rattle.walks.proofs.PathLaws.{path-none-left, path-moved}
 use Rattle.walks.proofs.DescendLaws.{walking-begin, walking-turn, turn-visits, visits-whole, visits-none, opened-moved}
 use Rattle.walks.proofs.LinkLaws.{Chained, chained-start, chained-step, chained-end}
 use Rattle.walks.proofs.walk.descend.Statement.{statement}
@@ -257,12 +258,12 @@ returns-3 c =
     let rightsib : (ℕ → ℕ) = rightsibOf (a .g .blocksize) (now (a .image)) in
     let sh : Shape = shapeOf (a .g) (a .kind) in
     let due : (ℕ → ℕ → ℕ → List Visit) = dueIn every sh (now (a .image)) in
-    let fan : (ℕ → ℕ) = fanIn (a .g .blocksize) (now (a .image)) in
     let w = turned d in
-    let told : Advanced due fan Nothing (o .«open» .result) (a .levels) (o .«open» .last .0) (t .advance .last .1 .1 .1 .1 .0) =
-    subst (λ (x : Next). Advanced due fan x (o .«open» .result) (a .levels) (o .«open» .last .0) (t .advance .last .1 .1 .1 .1 .0)) (c .before .before .before .enum-told .given .1) (t .advance .ensures) in
+    let told : Advanced sh (now (a .image)) Nothing (o .«open» .result) (a .levels) (o .«open» .last .0) (t .advance .last .1 .1 .1 .1 .0) =
+    subst (λ (x : Next). Advanced sh (now (a .image)) x (o .«open» .result) (a .levels) (o .«open» .last .0) (t .advance .last .1 .1 .1 .1 .0)) (c .before .before .before .enum-told .given .1) (t .advance .ensures) in
     let z : pathOf due (withPair (l .stack) (l .block) (l .level)) (lowOf (l .level)) (a .levels - lowOf (l .level)) ≡ [] =
-    sym (ap₂ (λ (p : List ℕ) (x : ℕ). pathOf due p x (a .levels - x)) (o .«open» .ensures .1) (o .«open» .ensures .0)) ∙ told .0 in
+    sym (ap₂ (λ (p : List ℕ) (x : ℕ). pathOf due p x (a .levels - x)) (o .«open» .ensures .1) (o .«open» .ensures .0))
+    ∙ path-none-left every sh (now (a .image)) (o .«open» .last .0) (o .«open» .result) (a .levels) (ready o .within) (told .0) in
     let e = walking-ended (w .0) z ∙ end-whole (recordLen (a .kind)) (total s) in
     let last : Chained leftsib rightsib (a .levels) (visits (total s)) [] (f .follow .last .0) (f .follow .last .1 .0) (f .follow .result) =
     subst (λ (x : List Visit). Chained leftsib rightsib (a .levels) (visits (total s)) x (f .follow .last .0) (f .follow .last .1 .0) (f .follow .result))
@@ -295,14 +296,14 @@ loop-again c =
     let n = d .before .step2 .given .0 .0 .count in
     let sh : Shape = shapeOf (a .g) (a .kind) in
     let due : (ℕ → ℕ → ℕ → List Visit) = dueIn every sh (now (a .image)) in
-    let fan : (ℕ → ℕ) = fanIn (a .g .blocksize) (now (a .image)) in
     let w = turned d in
     let b = c .before .next .given .0 .0 in
     let k = c .before .next .given .0 .1 .0 in
-    let m : Moved due fan b k (o .«open» .result) (a .levels) (o .«open» .last .0) (t .advance .last .1 .1 .1 .1 .0) =
-    subst (λ (x : Next). Advanced due fan x (o .«open» .result) (a .levels) (o .«open» .last .0) (t .advance .last .1 .1 .1 .1 .0)) (c .before .next .given .1) (t .advance .ensures) in
+    let m : Moved sh (now (a .image)) b k (o .«open» .result) (a .levels) (o .«open» .last .0) (t .advance .last .1 .1 .1 .1 .0) =
+    subst (λ (x : Next). Advanced sh (now (a .image)) x (o .«open» .result) (a .levels) (o .«open» .last .0) (t .advance .last .1 .1 .1 .1 .0)) (c .before .next .given .1) (t .advance .ensures) in
     let z : pathOf due (withPair (l .stack) (l .block) (l .level)) (lowOf (l .level)) (a .levels - lowOf (l .level)) ≡ visitOf b k ∷ pathOf due (t .advance .last .1 .1 .1 .1 .0) (k + 1) (a .levels - (k + 1)) =
-    sym (ap₂ (λ (p : List ℕ) (x : ℕ). pathOf due p x (a .levels - x)) (o .«open» .ensures .1) (o .«open» .ensures .0)) ∙ m .path in (
+    sym (ap₂ (λ (p : List ℕ) (x : ℕ). pathOf due p x (a .levels - x)) (o .«open» .ensures .1) (o .«open» .ensures .0))
+    ∙ path-moved every sh (now (a .image)) (o .«open» .last .0) (t .advance .last .1 .1 .1 .1 .0) b k (o .«open» .result) (a .levels) (ready o .places) (ready o .few) m in (
       subst (λ (x : List Visit). Walking (lookIn sh (now (a .image))) (a .limit) (a .places) (length (now (a .out))) (recordLen (a .kind)) (total s) (now (a .out)) (v .visit .last .1 .1 .1 .1 .1 .0) (v .visit .last .1 .1 .1 .1 .1 .1 .0) (n .visits) (n .bytes) x) z (w .0),
       opened-moved sh (now (a .image)) (o .«open» .last .0) (t .advance .last .1 .1 .1 .1 .0) b k (o .«open» .result) (a .levels) (ready o) m,
       omega (arith, m .inside),

@@ -1,11 +1,12 @@
 use borrow.Author.Needs.{needs}
+use native.Mathlib.Omega.{arith}
 use mathlib.Core.Path.{subst}
 use lib.ListN.{length}
 use denote.Ref.{now}
 use Rattle.blocks.specs.Tree.{recordLen}
-use Rattle.walks.specs.declared.walk.First.{First}
-use Rattle.walks.specs.declared.walk.First.the-variants.{Ready}
-use Rattle.walks.specs.inner.WalkState.{FirstIs}
+use Rattle.walks.specs.declared.first.First.{First}
+use Rattle.walks.specs.declared.first.First.the-variants.{Ready}
+use Rattle.walks.specs.First.{FirstIs}
 use Rattle.walks.proofs.CallLaws.{untouched-linking}
 use Rattle.walks.proofs.walk.walk_linked.Statement.{statement}
 use Rattle.walks.proofs.walk.walk_linked.Tie as tie
@@ -38,7 +39,7 @@ ready e = subst (asked (e .before .before)) (e .enum-told .given .1) (e .before 
 walk-tree-requires : tie.Need-walk-tree-requires
 walk-tree-requires c κs =
     let l = c .before .before .before .before in
-    (ready (l .before) .begun, l .limit-of .ensures .1)
+    (ready (l .before) .begun, omega (arith, l .limit-of .ensures .1))
 
 returns : tie.Need-returns
 returns c =

@@ -22,16 +22,11 @@ childAt s part level i = visitOf (beOf (bytesAt part (firstPointer s + i * ptrLe
 abbrev pub fanOf : List ℕ → ℕ
 fanOf part = beOf (bytesAt part numrecsAt 2)
 
--- the children from the i-th on, k of them, without those that are left out
+-- the children from the i-th on, k of them, without those that are skipped
 unfoldable pub childrenFrom : (ℕ → Bool) → Shape → List ℕ → ℕ → ℕ → ℕ → List Visit
 childrenFrom keep s part level i zero = []
 childrenFrom keep s part level i (suc k) =
     cond (keep i) (childAt s part level i ∷ childrenFrom keep s part level (suc i) k) (childrenFrom keep s part level (suc i) k)
-
--- the first child from the i-th on, of k, that is not left out; i + k where there is none
-unfoldable pub firstKept : (ℕ → Bool) → ℕ → ℕ → ℕ
-firstKept keep i zero = i
-firstKept keep i (suc k) = cond (keep i) i (firstKept keep (suc i) k)
 
 -- a walk leaves none out
 abbrev pub every : List ℕ → ℕ → Bool
@@ -71,16 +66,25 @@ withPair p block level = cond (eqb level 0) p (set (set p (level * 2) block) (le
 abbrev pub lowOf : ℕ → ℕ
 lowOf level = cond (eqb level 0) 1 level
 
--- the next block due, and the pairs without it: its parent's pair has a later child, no further than the last
-pub record Moved (due : ℕ → ℕ → ℕ → List Visit) (fan : ℕ → ℕ) (block level low levels : ℕ) (p p′ : List ℕ) : Type 0 where
+-- no child is left on the levels from `low` on, below `top`
+abbrev pub NoneLeft : ℕ → List ℕ → List ℕ → ℕ → ℕ → Type 0
+NoneLeft size image p low top = (l : ℕ) → low ≤ l → l < top → fanIn size image (getD p (l * 2) 0) ≤ getD p (l * 2 + 1) 0
+
+-- the next child of the block on a level's pair
+abbrev pub nextChild : Shape → List ℕ → List ℕ → ℕ → Visit
+nextChild s image p l = childAt s (blockIn (s .size) image (getD p (l * 2) 0)) (l - 1) (getD p (l * 2 + 1) 0)
+
+-- a child is taken: no child is left on the levels below its parent's, and the parent's pair then has the child after it
+pub record Moved (s : Shape) (image : List ℕ) (block level low levels : ℕ) (p p′ : List ℕ) : Type 0 where
   pub small : block < 2 ^ 32
-  pub next : ℕ
-  pub stored : p′ ≡ set p ((level + 1) * 2 + 1) next
-  pub within : next ≤ fan (getD p ((level + 1) * 2) 0)
   pub least : low ≤ level + 1
   pub inside : level + 1 < levels
-  pub path : pathOf due p low (levels - low) ≡ visitOf block level ∷ pathOf due p′ (level + 1) (levels - (level + 1))
+  pub none-left : NoneLeft (s .size) image p low (level + 1)
+  pub one-left : getD p ((level + 1) * 2 + 1) 0 < fanIn (s .size) image (getD p ((level + 1) * 2) 0)
+  pub child : visitOf block level ≡ nextChild s image p (level + 1)
+  pub stored : p′ ≡ set p ((level + 1) * 2 + 1) (getD p ((level + 1) * 2 + 1) 0 + 1)
 
-abbrev pub Advanced : (ℕ → ℕ → ℕ → List Visit) → (ℕ → ℕ) → Next → ℕ → ℕ → List ℕ → List ℕ → Type 0
-Advanced due fan (Block b l) low levels p p′ = Moved due fan b l low levels p p′
-Advanced due fan Nothing low levels p p′ = (pathOf due p low (levels - low) ≡ []) × (p′ ≡ p)
+-- or there is none
+abbrev pub Advanced : Shape → List ℕ → Next → ℕ → ℕ → List ℕ → List ℕ → Type 0
+Advanced s image (Block b l) low levels p p′ = Moved s image b l low levels p p′
+Advanced s image Nothing low levels p p′ = NoneLeft (s .size) image p low levels × (p′ ≡ p)

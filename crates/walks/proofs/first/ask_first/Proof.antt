@@ -10,8 +10,8 @@ use Rattle.walks.specs.Walk.{perNode}
 use Rattle.walks.specs.Shapes.{shapeOf}
 use Rattle.walks.proofs.LookLaws.{node-some, node-small}
 use Rattle.walks.proofs.DescendLaws.{eighteen}
-use Rattle.walks.proofs.walk.ask_first.Statement.{statement}
-use Rattle.walks.proofs.walk.ask_first.Tie as tie
+use Rattle.walks.proofs.first.ask_first.Statement.{statement}
+use Rattle.walks.proofs.first.ask_first.Tie as tie
 
 is-ok-requires : tie.Need-is-ok-requires
 is-ok-requires c κs = search needs
