@@ -5,6 +5,7 @@ ghost use mathlib.Core.Path.{_≡_};
 ghost use lib.ListN.{length};
 use codec::endian::be32;
 use codec::endian::be64;
+use codec::endian::put_be64;
 use list_calls::edits::kf_insert;
 use list_calls::edits::kf_insert_shared;
 use list_calls::edits::kf_let_go;
@@ -19,6 +20,7 @@ use tree_calls::block_calls::kf_crc32c_singly;
 use tree_calls::list_checks::kf_check_refcounts;
 use tree_calls::list_checks::kf_check_rmaps;
 use tree_calls::whole_trees::kf_build;
+use tree_calls::whole_trees::kf_lookup;
 use tree_calls::whole_trees::kf_plan;
 use tree_calls::whole_trees::kf_walk;
 use tree_calls::whole_trees::kf_walk_linked;
@@ -361,6 +363,91 @@ fn on_real_walk(head: &[u8], due: &[u8], records: &mut [u8]) -> bool {
     on_walk(head, &image, due, records)
 }
 
+// Answer i of a lookup as 8 bytes, for which there is room.
+fn put_answer(out: &mut [u8], i: usize, n: u64) {
+    if i < 0x1_0000_0000 {
+        let at = i * 8;
+        if at + 8 <= out.len() {
+            put_be64(out, at, n);
+        }
+    }
+}
+
+fn put_answers(answers: &[u64], out: &mut [u8]) {
+    let mut i = 0;
+    while i < answers.len() {
+        put_answer(out, i, answers[i]);
+        i += 1;
+    }
+}
+
+// A lookup, and what it leaves on the stack: zeros, or what was there before it.
+fn lookup(
+    head: &[u8],
+    image: &[u8],
+    asked: &[u32],
+    stack: &mut [u32],
+    answers: &mut [u64],
+) -> bool {
+    let mut said = [0xA5u64; 4];
+    let answer = kf_lookup(
+        narrow(head, 10),
+        number(head, 11),
+        number(head, 12),
+        number(head, 13),
+        wide(head, 14),
+        wide(head, 16),
+        image,
+        number(head, 19),
+        number(head, 20),
+        asked,
+        stack,
+        answers,
+        &mut said,
+    );
+    let left = if number(head, 29) == 0 {
+        0xA5A5A5A5u32
+    } else {
+        0
+    };
+    all32(stack, left) && said_as_due(head, answer, said)
+}
+
+// A lookup, with stack and answers of the lengths that the case says.
+fn lookup_lent(
+    head: &[u8],
+    image: &[u8],
+    asked: &[u32],
+    out: &mut [u8],
+    stack: &mut [u32],
+    answers: &mut [u64],
+) -> bool {
+    let s = number(head, 30) as usize;
+    let n = out.len() / 8;
+    if stack.len() < s {
+        return false;
+    }
+    if answers.len() < n {
+        return false;
+    }
+    let places = &mut answers[..n];
+    let so = lookup(head, image, asked, &mut stack[..s], places);
+    put_answers(places, out);
+    so
+}
+
+fn on_lookup(head: &[u8], image: &[u8], bytes: &[u8], out: &mut [u8], all: &mut [u32]) -> bool {
+    let mut stack = [0xA5A5A5A5u32; 4096];
+    let mut answers = [0xA5A5A5A5A5A5A5A5u64; 64];
+    let n = bytes.len() / 4;
+    if all.len() < n {
+        return false;
+    }
+    let asked = &mut all[..n];
+    spread(bytes, asked);
+    lookup_lent(head, image, asked, out, &mut stack, &mut answers)
+}
+
 fn on_edit(head: &[u8], call: u32, old: &[u8], new: &mut [u8]) -> bool {
     let start = number(head, 19);
     let count = number(head, 20);
@@ -460,6 +547,7 @@ fn call_as_due(
         12 => on_let_go(head, a, b, x, y, z),
         13 | 17 => on_real_walk(head, b, x),
         14 => on_take_held(head, a, b, x, y),
+        18 => on_lookup(head, a, b, x, list),
         _ => false,
     }
 }

@@ -1,3 +1,4 @@
 -- What the proofs of several functions use.
 pub mod Reporting
 pub mod TreeCalls
+pub mod LookupSaid

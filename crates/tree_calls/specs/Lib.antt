@@ -1,3 +1,4 @@
--- In reading order: what the calls on blocks, plans and builds say and leave, then those on walks.
+-- In reading order: what the calls on blocks, plans and builds say and leave, then those on walks, then the lookup.
 pub mod TreeCalls
 pub mod WalkFigures
+pub mod LookupFigures

@@ -6,15 +6,18 @@ ghost use Rattle.codec.specs.Question.{Outcome};
 ghost use Rattle.codec.specs.ListRefusal.{listOutcome};
 ghost use Rattle.blocks.specs.Refusal.{checkedOutcome};
 ghost use Rattle.walks.specs.WalkAnswer.{walkedReport};
+ghost use Rattle.lookup.specs.Answer.{lookedUpReport};
 ghost use Rattle.trees.specs.PlanAnswer.{PlanIs};
 ghost use Rattle.trees.specs.BuildAnswer.{builtOutcome};
 ghost use Rattle.interface.specs.Interface.{numberOf, Says};
 ghost use Rattle.tree_calls.specs.TreeCalls.{headerFigures, planFigures, buildFigures};
 ghost use Rattle.tree_calls.specs.WalkFigures.{Reports, yesFigure};
+ghost use Rattle.tree_calls.specs.LookupFigures.{ReportsVisits};
 use blocks::check::Checked;
 use codec::check::ListChecked;
 use interface::answer::Answer;
 use interface::answer::refused;
+use lookup::lookup::LookedUp;
 use trees::build::Built;
 use trees::plan::PlanAnswer;
 use trees::plan::Planned;
@@ -87,6 +90,18 @@ pub(crate) fn walked_answer(walked: Walked, fourth: u64) -> Answer
             figures: [visits as u64, records as u64, bytes as u64, fourth],
         },
         Walked::Refused { refusal, visits } => refused(refusal.told(), visits as u64),
+    }
+}
+
+pub(crate) fn looked_up_answer(looked: LookedUp) -> Answer
+    ensures { λ a. ⌜ ReportsVisits (lookedUpReport looked) (a .number) (a .figures) ⌝ }
+{
+    match looked {
+        LookedUp::Found { visits } => Answer {
+            number: 0,
+            figures: [visits as u64, 0, 0, 0],
+        },
+        LookedUp::Refused { refusal, visits } => refused(refusal.told(), visits as u64),
     }
 }
 

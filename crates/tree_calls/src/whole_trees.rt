@@ -4,10 +4,13 @@ ghost use Rattle.blocks.specs.Tree.{recordLen};
 ghost use Rattle.trees.specs.BuildCall.{buildOutcome};
 ghost use Rattle.trees.specs.PlanAnswer.{planOutcome};
 ghost use Rattle.walks.specs.WalkCall.{walkOf, lent};
+ghost use Rattle.lookup.specs.Lookup.{lookupOf};
 ghost use Rattle.interface.specs.Interface.{geometryOf, kindOf};
 ghost use Rattle.tree_calls.specs.TreeCalls.{PlanSays, BuildSays};
 ghost use Rattle.tree_calls.specs.WalkFigures.{WalkSays, LinkingSays};
+ghost use Rattle.tree_calls.specs.LookupFigures.{LookupSays};
 use crate::answers::built_answer;
+use crate::answers::looked_up_answer;
 use crate::answers::planned_answer;
 use crate::answers::walked_answer;
 use crate::answers::yes_figure;
@@ -15,6 +18,7 @@ use blocks::geometry::AgBlock;
 use interface::answer::say;
 use interface::given::geometry;
 use interface::given::tree_kind;
+use lookup::lookup::lookup;
 use trees::build::build;
 use trees::plan::plan;
 use walks::walk::walk;
@@ -163,4 +167,33 @@ pub extern "C" fn kf_walk_linked(
     let walked = linking.walked;
     let linked = linking.linked;
     say(walked_answer(walked, yes_figure(linked)), said)
+}
+
+// How many records of a reverse map lie over each of the numbers `asked`, which ascend, in one descent from its root that skips each child between
+// whose low and high key's start none of them lies: questions 1, 11, 12 (the stack alone) and 29, then at each block 13, 14 and 3 to 10. The figure is the
+// visits; of a refusal what was expected, what was found and the visits.
+#[no_mangle]
+pub extern "C" fn kf_lookup(
+    version: u16,
+    blocksize: u32,
+    agblocks: u32,
+    agno: u32,
+    uuid_high: u64,
+    uuid_low: u64,
+    image: &[u8],
+    root: u32,
+    levels: u32,
+    asked: &[u32],
+    stack: &mut [u32],
+    answers: &mut [u64],
+    said: &mut [u64; 4],
+) -> u32
+    ensures { λ r. ⌜ LookupSays (now (asked .entry))
+        (lookupOf (geometryOf version blocksize agblocks agno «uuid_high» «uuid_low») (now (image .entry)) root levels
+        (length (now (stack .entry))) (now (asked .entry)) (length (now (answers .entry))))
+        r (now (said .exit)) (now (stack .entry)) (now (stack .exit)) (now (answers .entry)) (now (answers .exit)) ⌝ }
+{
+    let g = geometry(version, blocksize, agblocks, agno, uuid_high, uuid_low);
+    let looked = lookup(g, image, AgBlock(root), levels, asked, stack, answers);
+    say(looked_up_answer(looked), said)
 }

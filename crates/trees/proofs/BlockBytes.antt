@@ -138,10 +138,10 @@ module _ (t : Layout) (s : Sound t) where
   fresh-bytes p h = padded-bytes (t .shape .size) (replicate (t .shape .header) 0 ++ p .body) (isBytes-append (replicate (t .shape .header) 0) (p .body) (isBytes-zeros (t .shape .header)) h)
 
   -- after the header stands the body, then zeros
-  abbrev rest : Part → List ℕ
+  abbrev pub rest : Part → List ℕ
   rest p = replicate (t .shape .size - length (replicate (t .shape .header) 0 ++ p .body)) 0
 
-  block-body : (level n : ℕ) (x : Links) (p : Part) → roomy t p → drop (t .shape .header) (blockBytes t level n x p) ≡ p .body ++ rest p
+  pub block-body : (level n : ℕ) (x : Links) (p : Part) → roomy t p → drop (t .shape .header) (blockBytes t level n x p) ≡ p .body ++ rest p
   block-body level n x p h =
       s .stamp-body n level (p .count) x (fresh t p) (fresh-length t (s .sized) p h)
       ∙ ap (drop (t .shape .header)) (append-assoc (replicate (t .shape .header) 0) (p .body) (rest p))

@@ -40,7 +40,7 @@ use Rattle.walks.proofs.OneLink.{one-link-wrong}
 abbrev pub small : Geometry
 small = record { version = 5; blocksize = 512; agblocks = 3; agno = 0; «meta_uuid» = replicate 16 0 }
 
-small-fits : Fits small
+pub small-fits : Fits small
 small-fits = record { agno-fits = omega arith; agblocks-fits = omega arith; uuid-long = refl; uuid-bytes = isBytes-zeros 16 }
 
 -- n counts of one block each and two owners, on every second block
@@ -58,7 +58,7 @@ list-bytes = isBytes-bytesOf refcounts refcounts-lawful (counted 0 39)
 abbrev pub numbers : List ℕ
 numbers = 0 ∷ 1 ∷ 2 ∷ []
 
-small-numbers : AreNumbers numbers
+pub small-numbers : AreNumbers numbers
 small-numbers zero = omega arith
 small-numbers (suc zero) = omega arith
 small-numbers (suc (suc zero)) = omega arith
@@ -72,7 +72,7 @@ built = refl
 abbrev pub image : List ℕ
 image = stored 512 (replicate 1536 0) numbers (builtBytes small kind.Refcount list numbers)
 
-small-places : Places 512 (length {A = ℕ} (replicate 1536 0)) numbers
+pub small-places : Places 512 (length {A = ℕ} (replicate 1536 0)) numbers
 small-places =
     subst (λ (n : ℕ). Places 512 n numbers) (sym (length-replicate {A = ℕ} 1536 0))
     (omega arith, (λ e. omega arith, (λ e. omega arith, tt)), (omega arith, (λ e. omega arith, tt), (omega arith, tt, tt)))

@@ -1,7 +1,10 @@
 // Trees of the reverse map over blocks of 512 bytes, run: plans; a tree of three levels built, stored at scattered numbers and walked back, whole
 // and with one link damaged; builds and walks refused by each question. A walk's line says whether the levels are linked, and ends with what
-// became of the lists and scratches. `stdout` was worked out apart from this code.
+// became of the lists and scratches. Lookups in that tree are in lookups.rt. `stdout` was worked out apart from this code.
 ghost use Prim.Native.Nat.{_<_};
+
+mod lookups;
+
 use blocks::geometry::AgBlock;
 use blocks::geometry::Geometry;
 use blocks::kind::TreeKind;
@@ -632,4 +635,5 @@ fn main() {
     refused_by_lengths();
     refused_by_blocks();
     refused_by_visits();
+    lookups::lookups();
 }

@@ -1,0 +1,15 @@
+pub mod Ascending
+pub mod TallyLaws
+pub mod SumLaws
+pub mod ChildLaws
+pub mod FoundLaws
+pub mod DescentLaws
+pub mod CallLaws
+pub mod Pruned
+pub mod Keyed
+pub mod Looked
+pub mod KeyStarts
+pub mod BuiltKeys
+pub mod Built
+pub mod SmallLookup
+pub mod SmallDescent
