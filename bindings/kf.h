@@ -121,7 +121,9 @@ enum kf_answer {
     /* Is every block of the extent held? */
     KF_Q_UNHELD = 27,
     /* Has each shared record over the extent fewer than 4,294,967,295 owners, so that one more can be told? */
-    KF_Q_OWNERS = 28
+    KF_Q_OWNERS = 28,
+    /* Do the block numbers asked ascend strictly, and are there at least as many places for answers? */
+    KF_Q_ASKED = 29
 };
 
 /* CRC32C of the bytes, four at a step from four tables. It answers the CRC. */
@@ -168,6 +170,20 @@ uint32_t kf_walk(KF_GEOMETRY, uint32_t kind, const uint8_t *image, size_t image_
 uint32_t kf_walk_linked(KF_GEOMETRY, uint32_t kind, const uint8_t *image, size_t image_len, uint32_t root, uint32_t levels,
                         uint32_t *stack, size_t stack_len, uint64_t *scratch, size_t scratch_len,
                         uint32_t *blocks, size_t blocks_len, uint8_t *records, size_t records_len, uint64_t said[KF_FIGURES]);
+
+/* How many records of the reverse map lie over each of the block numbers `asked`, in one descent from the root: `answers[i]` is that of
+ * `asked[i]`. The image and the stack are as for a walk of the reverse map; there is no scratch (1, 11, 12, 29; then at each block 13, 14, 3 to
+ * 10). In a node a child is skipped where none of all the numbers lies from its low key's start to its high key's start, both included;
+ * the root is visited always, also with no number asked. An answer counts the records of the leaves visited by their bytes as they are: start
+ * <= number < start + count. Where kf_walk reads the tree, its records are accepted (19, 20) and its keys are those of the records under them,
+ * these are all records over the block, and no block is visited more often than by the walk. Nothing asks whether the keys are so: in a tree
+ * with other keys a block that a record holds can be answered 0, so there 0 does not say that a block is free. A refusal by 1, 11, 12 or 29
+ * touches neither stack nor answers; any other leaves both zero. A finished lookup leaves the stack zero, and the answers past the numbers as
+ * they were.
+ * said: visits, 0, 0, 0; refused: expected, found, visits, 0. */
+uint32_t kf_lookup(KF_GEOMETRY, const uint8_t *image, size_t image_len, uint32_t root, uint32_t levels,
+                   const uint32_t *asked, size_t asked_len, uint32_t *stack, size_t stack_len,
+                   uint64_t *answers, size_t answers_len, uint64_t said[KF_FIGURES]);
 
 /* The edits below read the old lists and write new ones beside them. A refusal leaves what was lent for these as it was, and what lies past a
  * new list stays. 26 is never the answer with room for

@@ -1,5 +1,5 @@
-/* An extent is taken, taken once more by another owner, and let go by both; then the reverse map is built as a tree and read back. The calls
- * are the proved library's; what is lent to them, and what is made of their answers, is this program's.
+/* An extent is taken, taken once more by another owner, and let go by both; then the reverse map is built as a tree, read back and looked up
+ * in. The calls are the proved library's; what is lent to them, and what is made of their answers, is this program's.
  * Compile it in the repository's folder, as C99 or later, or as C++11 or later:
  *
  *   cc -std=c99 -Wall -Wextra -pedantic -I bindings bindings/examples/let_go.c \
@@ -157,11 +157,11 @@ static size_t let_go(struct list *map, struct list *counts, uint32_t start, uint
     return found;
 }
 
-/* The reverse map as a tree of one block, number 5 of the group, checked and read back. */
+/* The reverse map as a tree of one block, number 5 of the group, checked, read back and looked up in. */
 static void store_and_read(const struct list *map)
 {
-    uint64_t said[KF_FIGURES], levels[KF_LEVELS];
-    const uint32_t numbers[1] = {5};
+    uint64_t said[KF_FIGURES], levels[KF_LEVELS], answers[3];
+    const uint32_t numbers[1] = {5}, asked[3] = {3, 4, 40};
     const size_t capacity = (BLOCKSIZE - 56) / 44;
     struct list built, image, records;
     uint32_t *stack, *blocks;
@@ -202,6 +202,14 @@ static void store_and_read(const struct list *map)
         const uint8_t *record = records.bytes + i * KF_RMAP_BYTES;
         printf("  record: %lu blocks from %lu\n", (unsigned long)be32(record + 4), (unsigned long)be32(record));
     }
+
+    /* How many records lie over each of some blocks, which have to ascend. The stack is as long as the walk's. */
+    expect("lookup",
+           kf_lookup(GEOMETRY, image.bytes, image.len, numbers[0], 1, asked, 3, stack, stack_len, answers, 3, said),
+           KF_DONE);
+    must(said[0] == 1, "it read the one block");
+    for (i = 0; i < 3; i++)
+        printf("  records over block %lu: %lu\n", (unsigned long)asked[i], (unsigned long)answers[i]);
 
     free(built.bytes);
     free(image.bytes);

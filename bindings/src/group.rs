@@ -66,6 +66,17 @@ pub struct Tree {
     pub linked: bool,
 }
 
+/// What a lookup found.
+#[derive(Debug, Clone, PartialEq, Eq)]
+#[non_exhaustive]
+pub struct LookedUp {
+    /// How many of the records read lie over each number asked, in the order
+    /// asked.
+    pub holders: Vec<u64>,
+    /// The blocks visited; one met twice counts twice.
+    pub visits: usize,
+}
+
 impl Tree {
     /// Reads a tree from its root, as [`walk_linked`](crate::walk_linked) does,
     /// and never answers 12. The image is the group, block n at n times the
@@ -115,7 +126,58 @@ impl Tree {
         }
     }
 
-    /// The same with room for so many blocks, each of records alone.
+    /// Counts the records of the reverse map over each of the block numbers
+    /// `asked`, in one descent from the root, as [`lookup`](crate::lookup) does;
+    /// it never answers 12, and 29 only where the numbers do not ascend strictly.
+    /// No list of blocks or records is made, so that `root.blocks` is not asked
+    /// about.
+    ///
+    /// An answer goes by the keys in the nodes, and no question asks about these.
+    /// Where they are not those of the records under them an answer can be too
+    /// low, so that 0 does not say that a block is free;
+    /// [`lookup`](crate::lookup) says when all records are counted.
+    ///
+    /// ```
+    /// use kf::{build, Geometry, Kind, Rmap, Root, Tree};
+    /// let g = Geometry::new(5, 512, 9, 0, [7; 16]);
+    /// // Inode 7 has blocks 8 and 9, 16 and 17, .., 400 and 401; inode 8 shares one.
+    /// let extent = |i: u32| Rmap { startblock: 8 * i, blockcount: 2, owner: 7, offset: 0 };
+    /// let mut extents: Vec<Rmap> = (1..=50).map(extent).collect();
+    /// extents.insert(2, Rmap { startblock: 17, blockcount: 1, owner: 8, offset: 0 });
+    /// let list: Vec<u8> = extents.iter().flat_map(|r| r.to_bytes()).collect();
+    /// let mut image = [0; 4 * 512];
+    /// build(&g, Kind::Rmap, &list, &[0, 1, 2, 3], &mut image).unwrap();
+    ///
+    /// let root = Root::new(3, 2, 4);
+    /// let found = Tree::lookup(&g, &image, root, &[7, 16, 17, 18]).unwrap();
+    /// assert_eq!(found.holders, [0, 1, 2, 0]);
+    /// // The root and one leaf of the three.
+    /// assert_eq!(found.visits, 2);
+    ///
+    /// let refused = Tree::lookup(&g, &image, root, &[17, 17]).unwrap_err();
+    /// assert_eq!(refused.refusal.number, 29);
+    /// ```
+    pub fn lookup(
+        g: &Geometry,
+        image: &[u8],
+        root: Root,
+        asked: &[u32],
+    ) -> Result<LookedUp, WalkRefusal> {
+        let mut stack = vec![0; Lent::stack_places(g, Kind::Rmap, root.levels)];
+        let mut holders = vec![0; asked.len()];
+        let visits = lent::lookup(
+            g,
+            image,
+            root.root,
+            root.levels,
+            asked,
+            &mut stack,
+            &mut holders,
+        )?;
+        Ok(LookedUp { holders, visits })
+    }
+
+    /// `walk` with room for so many blocks, each of records alone.
     fn walk_in(
         room: usize,
         g: &Geometry,

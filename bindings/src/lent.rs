@@ -9,6 +9,6 @@ pub use lists::{
     LetGone, NewLists, Released, TakenHeld,
 };
 pub use trees::{
-    build, check_block, crc32c, crc32c_singly, plan, walk, walk_linked, Built, Header, Lent, Plan,
-    Walked, NO_SIBLING,
+    build, check_block, crc32c, crc32c_singly, lookup, plan, walk, walk_linked, Built, Header,
+    Lent, Plan, Walked, NO_SIBLING,
 };

@@ -2,10 +2,10 @@
 //! blocks that hold them. The library behind it is proved; what this crate adds
 //! is said [below](#what-is-proved-and-what-this-crate-is-trusted-for).
 //!
-//! It checks blocks, walks trees, takes extents and lets them go, says which
-//! blocks are free again, and plans trees and builds them afresh. It reads no
-//! superblock or group header, keeps no cache and writes no image: its caller
-//! does.
+//! It checks blocks, walks trees, counts the records over each of many blocks,
+//! takes extents and lets them go, says which blocks are free again, and plans
+//! trees and builds them afresh. It reads no superblock or group header, keeps no
+//! cache and writes no image: its caller does.
 //!
 //! # Building
 //!
@@ -70,9 +70,10 @@
 //! # }
 //! ```
 //!
-//! The folder `examples` has four programs on trees of real volumes:
-//! `check_block`, `walk_tree`, `retire` (lets all extents of an owner go and
-//! builds both trees afresh) and `all_groups` (on all cores).
+//! The folder `examples` has five programs on trees of real volumes:
+//! `check_block`, `walk_tree`, `holders` (how many hold each of many blocks),
+//! `retire` (lets all extents of an owner go and builds both trees afresh) and
+//! `all_groups` (on all cores).
 //!
 //! ```sh
 //! cargo run --example retire data/v5-1024-small.case 81986
@@ -90,6 +91,7 @@
 //! | over vectors | on lent memory |
 //! |---|---|
 //! | [`Group::walk`], [`Tree::walk`] | [`walk`], [`walk_linked`] |
+//! | [`Tree::lookup`] | [`lookup`] |
 //! | [`Group::take`] | [`insert`] |
 //! | [`Group::take_held`] | [`take_held`] |
 //! | [`Group::let_go`] | [`let_go`] |
@@ -103,8 +105,8 @@
 //! library's questions failed; all questions before it held. [`Question`]
 //! has all numbers with their texts; `docs/QUESTIONS.md` of the repository has
 //! each in full, the order in which each call asks, and the words used here. A
-//! refused call on lent memory writes nothing, but a [`walk`] or a
-//! [`walk_linked`] that had begun, which leaves zeros. Past a result nothing is
+//! refused call on lent memory writes nothing, but a [`walk`], a [`walk_linked`]
+//! or a [`lookup`] that had begun, which leaves zeros. Past a result nothing is
 //! written.
 //!
 //! No call keeps anything, so calls on memory of their own may run at the same
@@ -152,11 +154,11 @@ pub mod raw;
 mod records;
 
 pub use geometry::{Geometry, Kind};
-pub use group::{Group, Root, Tree};
+pub use group::{Group, LookedUp, Root, Tree};
 pub use lent::{
     build, check_block, check_refcounts, check_rmaps, crc32c, crc32c_singly, insert, insert_shared,
-    let_go, plan, release, remove, take_held, walk, walk_linked, Built, Header, Lent, LetGone,
-    NewLists, Plan, Released, TakenHeld, Walked, NO_SIBLING,
+    let_go, lookup, plan, release, remove, take_held, walk, walk_linked, Built, Header, Lent,
+    LetGone, NewLists, Plan, Released, TakenHeld, Walked, NO_SIBLING,
 };
 pub use question::{Question, Refusal, Values, WalkRefusal};
 pub use records::{

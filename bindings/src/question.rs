@@ -16,7 +16,7 @@ macro_rules! questions {
         /// assert_eq!(Question::from_number(4), Some(Question::Magic));
         /// assert_eq!(Question::Magic.number(), 4);
         /// assert_eq!(Question::Magic.to_string(), "wrong magic number");
-        /// assert_eq!(Question::ALL.len(), 28);
+        /// assert_eq!(Question::ALL.len(), 29);
         /// ```
         #[derive(Debug, Clone, Copy, PartialEq, Eq, Hash, PartialOrd, Ord)]
         #[non_exhaustive]
@@ -79,6 +79,7 @@ questions! {
     26 Room "a new list or the free extents do not fit what was lent",
     27 Unheld "a block of the extent is not held",
     28 Owners "a shared record over the extent has 4,294,967,295 owners already",
+    29 Asked "the block numbers asked do not ascend strictly, or there are fewer places for answers",
 }
 
 impl Question {
@@ -200,7 +201,7 @@ pub(crate) fn answer<T>(number: u32, said: &[u64; 4], done: T) -> Result<T, Refu
     }
 }
 
-/// A refused walk: of which tree, why, and after how many visits.
+/// A refused walk or lookup: of which tree, why, and after how many visits.
 ///
 /// ```
 /// use kf::{Kind, Question, Refusal, Values, WalkRefusal};
@@ -214,7 +215,7 @@ pub(crate) fn answer<T>(number: u32, said: &[u64; 4], done: T) -> Result<T, Refu
 #[derive(Debug, Clone, Copy, PartialEq, Eq, Hash)]
 #[non_exhaustive]
 pub struct WalkRefusal {
-    /// The tree that was walked.
+    /// The tree that was walked, or looked up in.
     pub kind: Kind,
     /// Why it was refused.
     pub refusal: Refusal,
@@ -257,7 +258,7 @@ mod tests {
     #[test]
     fn questions() {
         let numbers: Vec<u32> = Question::ALL.iter().map(|q| q.number()).collect();
-        assert_eq!(numbers, (1..=28).collect::<Vec<u32>>());
+        assert_eq!(numbers, (1..=29).collect::<Vec<u32>>());
         let mut texts = BTreeSet::new();
         for &q in Question::ALL {
             assert_eq!(Question::from_number(q.number()), Some(q));
@@ -265,7 +266,7 @@ mod tests {
             assert!(texts.insert(q.text()), "{q:?} has a text of its own");
         }
         assert_eq!(Question::from_number(0), None);
-        assert_eq!(Question::from_number(29), None);
+        assert_eq!(Question::from_number(30), None);
     }
 
     #[test]

@@ -202,6 +202,33 @@ extern "C" {
         said: *mut [u64; 4],
     ) -> u32;
 
+    /// How many records of the reverse map lie over each of the block numbers
+    /// `asked`, in one descent from the root.
+    ///
+    /// # Safety
+    ///
+    /// The [duties of a caller](self#duties-of-a-caller).
+    /// Reads `image` and `asked`; writes `stack`, `answers` and `said`.
+    pub fn kf_lookup(
+        version: u16,
+        blocksize: u32,
+        agblocks: u32,
+        agno: u32,
+        uuid_high: u64,
+        uuid_low: u64,
+        image: *const u8,
+        image_len: usize,
+        root: u32,
+        levels: u32,
+        asked: *const u32,
+        asked_len: usize,
+        stack: *mut u32,
+        stack_len: usize,
+        answers: *mut u64,
+        answers_len: usize,
+        said: *mut [u64; 4],
+    ) -> u32;
+
     /// A first take: puts an extent of which no block is held into the reverse
     /// map.
     ///

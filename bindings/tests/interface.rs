@@ -891,7 +891,7 @@ fn two_parameters_exchanged_are_found() {
         "uint32_t agblocks, uint32_t agno",
         "uint32_t agno, uint32_t agblocks",
     );
-    assert_eq!(found.len(), 2 * 5);
+    assert_eq!(found.len(), 2 * 6);
 }
 
 #[test]
@@ -1030,10 +1030,10 @@ fn another_answer_is_found() {
     let (header, paper) = (read("bindings/kf.h"), read("docs/QUESTIONS.md"));
     let found = |from, to| answer_differences(&altered(&header, from, to), &paper);
     assert_eq!(
-        found("KF_Q_OWNERS = 28", "KF_Q_OWNERS = 29"),
+        found("KF_Q_ASKED = 29", "KF_Q_ASKED = 30"),
         [
-            "question 28 has 0 constants",
-            "KF_Q_OWNERS is 29, which is no question"
+            "question 29 has 0 constants",
+            "KF_Q_ASKED is 30, which is no question"
         ]
     );
     assert_eq!(

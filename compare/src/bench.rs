@@ -195,7 +195,12 @@ struct Sample {
 }
 
 fn tree_image(n: usize, size: usize) -> Sample {
-    let list = bare::rmap_bytes(&sample::rmaps(n));
+    tree_of(&sample::rmaps(n), size)
+}
+
+fn tree_of(records: &[Rmap], size: usize) -> Sample {
+    let n = records.len();
+    let list = bare::rmap_bytes(records);
     let g = sample::geometry_for(Tree::Rmap, size as u64, n as u64);
     let mut image = sample::image(&g, Tree::Rmap, &list);
     let plan = paper::plan(&g, Tree::Rmap, n as u64).accepted();
@@ -347,6 +352,97 @@ fn linked() {
             with / plain
         );
     }
+}
+
+/// How many of the records lie over each number, by differences: at the first
+/// number that a record lies over there is one more, at the first past it one
+/// less. The starts ascend, so the first is found by going on; the other, where
+/// the record lies over any, by halves.
+fn counted(records: &[u8], asked: &[u32]) -> Vec<u64> {
+    let number = |b: &[u8]| u32::from_be_bytes(b.try_into().expect("4 bytes"));
+    let mut more = vec![0i64; asked.len() + 1];
+    let mut from = 0;
+    for r in records.chunks_exact(24) {
+        let start = number(&r[..4]);
+        let end = u64::from(start) + u64::from(number(&r[4..8]));
+        from += asked[from..].iter().take_while(|&&a| a < start).count();
+        if asked.get(from).is_some_and(|&a| u64::from(a) < end) {
+            let over = asked[from..].partition_point(|&a| u64::from(a) < end);
+            more[from] += 1;
+            more[from + over] -= 1;
+        }
+    }
+    let mut n = 0;
+    let sum = |m: &i64| {
+        n += m;
+        n as u64
+    };
+    more[..asked.len()].iter().map(sum).collect()
+}
+
+/// Numbers looked up together, by turns with a whole walk and counting over its
+/// records: the library's, and the original's, which has no lookup.
+fn print_lookup(what: &str, s: &Sample, asked: &[u32]) {
+    let (g, im) = (library::g(&s.g), &s.image);
+    let mut lent = Lent::of(s);
+    let mut stack = lent.stack.clone();
+    let mut answers = vec![0; asked.len()];
+    let mut least = [Duration::MAX; 3];
+    let mut visits = [0; 2];
+    for _ in 0..TIMES {
+        let (lookup, said) = best(1, || {
+            let b = &im.bytes;
+            library::lookup(&g, b, im.root, im.levels, asked, &mut stack, &mut answers)
+        });
+        assert_eq!(said.number, 0);
+        let (walk, walked) = best(1, || {
+            s.walk_library(&mut lent);
+            counted(&lent.records, asked)
+        });
+        let (other, (original, blocks)) = best(1, || {
+            let a = s.walk_original().outcome.accepted();
+            let a = a.expect("the original walks it");
+            (counted(&a.records, asked), a.blocks.len())
+        });
+        assert!(answers == walked && answers == original);
+        visits = [said.figures[0], blocks as u64];
+        for (least, d) in least.iter_mut().zip([lookup, walk, other]) {
+            *least = d.min(*least);
+        }
+    }
+    let [lookup, walk, other] = least.map(ms);
+    println!(
+        "| {what} | {lookup:.3} | {} | {walk:.3} | {} | {other:.3} | {:.4} | {:.4} |",
+        visits[0],
+        visits[1],
+        lookup / walk,
+        lookup / other
+    );
+}
+
+fn lookups() {
+    let (n, size) = (1_000_000, 4096);
+    println!(
+        "| 500 numbers, {n} records at {} | lookup, ms | visits | walk and count, ms | visits \
+         | original, walk and count, ms | lookup / walk | lookup / original |",
+        apart(size)
+    );
+    println!("|---|---:|---:|---:|---:|---:|---:|---:|");
+    // Record i starts at 8 i, so one leaf has the records over the second 500.
+    let s = tree_image(n, size);
+    let asked = |step: usize| -> Vec<u32> { (0..500).map(|i| i * step as u32).collect() };
+    print_lookup("spread over all", &s, &asked(8 * n / 500));
+    print_lookup("in one leaf", &s, &asked(2));
+    // So many owners of the same blocks.
+    let all = |owner| Rmap {
+        startblock: 0,
+        blockcount: 1000,
+        owner,
+        offset: 0,
+    };
+    let records: Vec<Rmap> = (1..).map(all).take(n).collect();
+    let s = tree_of(&records, size);
+    print_lookup("all records over all", &s, &asked(2));
 }
 
 fn original_edit(e: Edit, old: &[u8], x: Rmap) -> Outcome<Vec<u8>> {
@@ -598,9 +694,12 @@ fn edit_vectors(n: usize) {
     print_vectors("`let_go`, `Group::let_go`", &size, times);
 }
 
+/// A part of the table of calls.
+type Part = fn(&mut Vec<Row>);
+
 /// All of it, or the parts named.
 pub fn bench(words: &[String]) {
-    let parts: [(&str, fn(&mut Vec<Row>)); 5] = [
+    let parts: [(&str, Part); 5] = [
         ("crc", crc),
         ("trees", trees),
         ("edits", edits),
@@ -609,7 +708,7 @@ pub fn bench(words: &[String]) {
     ];
     for w in words {
         assert!(
-            ["forms", "linked", "vectors"].contains(&w.as_str())
+            ["forms", "linked", "lookups", "vectors"].contains(&w.as_str())
                 || parts.iter().any(|(n, _)| n == w),
             "no part {w}"
         );
@@ -634,6 +733,9 @@ pub fn bench(words: &[String]) {
     }
     if wanted("linked") {
         linked();
+    }
+    if wanted("lookups") {
+        lookups();
     }
     if wanted("vectors") {
         vectors();

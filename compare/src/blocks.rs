@@ -9,10 +9,12 @@ use oracle::ag_btree::reach::stamp;
 use oracle::sample::Random;
 use oracle::{bare, paper, Geometry, Tree};
 
+type Form = fn(&[u8]) -> u32;
+
 /// Both forms on the same bytes, beside the original's.
 fn forms(b: &[u8], tally: &mut Tally) {
     let want = crc32c::crc32c(b);
-    let forms: [(&str, fn(&[u8]) -> u32); 2] = [
+    let forms: [(&str, Form); 2] = [
         ("crc32c", library::crc32c),
         ("crc32c_singly", library::crc32c_singly),
     ];

@@ -187,6 +187,38 @@ pub fn walk(
     })
 }
 
+pub fn lookup(
+    g: &G,
+    image: &[u8],
+    root: u32,
+    levels: u32,
+    asked: &[u32],
+    stack: &mut [u32],
+    answers: &mut [u64],
+) -> Said {
+    said(|s| unsafe {
+        raw::kf_lookup(
+            g.version,
+            g.blocksize,
+            g.agblocks,
+            g.agno,
+            g.high,
+            g.low,
+            image.as_ptr(),
+            image.len(),
+            root,
+            levels,
+            asked.as_ptr(),
+            asked.len(),
+            stack.as_mut_ptr(),
+            stack.len(),
+            answers.as_mut_ptr(),
+            answers.len(),
+            s,
+        )
+    })
+}
+
 /// Which edit of the reverse map.
 #[derive(Debug, Clone, Copy, PartialEq, Eq)]
 pub enum Edit {

@@ -21,11 +21,12 @@ pub const NONE: u32 = u32::MAX;
 /// Where a block names the one before it, and the one after.
 const SIDES: [usize; 2] = [8, 12];
 
-fn be32(b: &[u8], at: usize) -> u32 {
+/// The number at a place, of 4 bytes.
+pub fn be32(b: &[u8], at: usize) -> u32 {
     u32::from_be_bytes(b[at..at + 4].try_into().expect("4 bytes"))
 }
 
-fn put(b: &mut [u8], at: usize, n: u32) {
+pub fn put(b: &mut [u8], at: usize, n: u32) {
     b[at..at + 4].copy_from_slice(&n.to_be_bytes());
 }
 

@@ -15,6 +15,7 @@ mod lent;
 mod library;
 mod links;
 mod lists;
+mod lookups;
 mod real;
 mod sample;
 mod tally;
@@ -32,7 +33,7 @@ struct Part {
 }
 
 /// In this order: a part's seed goes by its place.
-const PARTS: [Part; 12] = [
+const PARTS: [Part; 13] = [
     Part {
         name: "crc",
         tries:
@@ -92,8 +93,13 @@ const PARTS: [Part; 12] = [
     },
     Part {
         name: "vectors",
-        tries: "the layer over vectors: both lists edited, trees built and walked",
+        tries: "the layer over vectors: both lists edited, trees built, walked and looked up in",
         run: vectors::vectors,
+    },
+    Part {
+        name: "lookups",
+        tries: "trees built, stored, then looked up in whole, damaged or otherwise asked",
+        run: lookups::lookups,
     },
 ];
 

@@ -1,5 +1,5 @@
 //! Trees of real volumes: the walk gives the records and blocks that another
-//! tool printed, and so does the original.
+//! tool printed, and so does the original; a lookup counts the records printed.
 //!
 //! A `.case` file has a geometry and blocks in hex, its `.expect` what was
 //! printed of them. The two group trees in scope are `rmap` and `refcount`;
@@ -11,9 +11,11 @@
 use crate::library::{self, Walk};
 use crate::links;
 use crate::lists::{count_bytes, Count, STAGING};
+use crate::lookups::{self, Lookup};
+use crate::tally::Tally;
 use crate::trees::{walk_figures, Memory, Room};
 use crate::vectors::extent;
-use oracle::bare::WalkAnswer;
+use oracle::bare::{WalkAnswer, Walked};
 use oracle::rmap::{Rmap, OFF_ATTR_FORK, OFF_BMBT_BLOCK, OFF_UNWRITTEN};
 use oracle::{bare, paper, Geometry, Tree};
 use std::fs;
@@ -272,6 +274,43 @@ fn walks(what: &str, t: &RealTree, kind: Tree, image: &[u8], linked: bool) -> Wa
     a
 }
 
+/// Lookups in a reverse map, whose keys have to be theirs: at each start, last block and end of the records
+/// printed and beside them, all together, by hundreds and each alone. The answers
+/// are counted over the records printed.
+fn lookups_of(what: &str, t: &RealTree, image: &[u8], walked: &Walked) -> u64 {
+    let mut asked = vec![0, u32::MAX];
+    for r in bare::rmap_list(&t.records) {
+        let end = r.startblock + r.blockcount;
+        asked.extend([r.startblock.saturating_sub(1), r.startblock]);
+        asked.extend([end - 1, end, end + 1]);
+    }
+    asked.sort_unstable();
+    asked.dedup();
+    assert!(walked.records == t.records, "{what}: counted over these");
+    let under = lookups::under(&t.g, image, t.root, t.levels as u16 - 1);
+    assert!(
+        bare::rmap_bytes(&under) == t.records,
+        "{what}: keys' records"
+    );
+    let mut l = Lookup {
+        g: t.g,
+        image: image.to_vec(),
+        root: t.root,
+        levels: t.levels,
+        asked: vec![],
+        stack: lookups::places(&t.g, t.levels),
+        answers: asked.len(),
+    };
+    let mut tally = Tally::default();
+    for size in [asked.len(), 100, 1] {
+        for part in asked.chunks(size) {
+            l.asked = part.to_vec();
+            lookups::one_whole(&l, walked, &mut tally);
+        }
+    }
+    tally.calls()
+}
+
 /// A tree in scope: its records, blocks and siblings are those printed, and it
 /// is linked.
 fn in_scope(case: &str, name: &str, t: &RealTree) -> u32 {
@@ -290,11 +329,19 @@ fn in_scope(case: &str, name: &str, t: &RealTree) -> u32 {
         let due = [left, right].map(u64::from);
         assert_eq!((said.number, &said.figures[2..]), (0, &due[..]), "{what}");
     }
+    let looked = match t.tree {
+        Tree::Rmap => lookups_of(&what, t, &image, &a),
+        Tree::Refcount => 0,
+    };
     let (n, count) = (a.blocks.len(), a.records.len() / t.tree.record_len());
+    let lookups = match looked {
+        0 => String::new(),
+        n => format!(", lookups {n}, keys theirs"),
+    };
     println!(
-        "{what}: walks 2, block checks {n}; blocks {n}, records {count} and siblings as printed, linked"
+        "{what}: walks 2, block checks {n}{lookups}; blocks {n}, records {count} and siblings as printed, linked"
     );
-    2 + n as u32
+    2 + n as u32 + looked as u32
 }
 
 /// Any other tree, read as each of the two kinds: 3 on version 4, 4 on

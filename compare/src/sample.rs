@@ -5,7 +5,7 @@
 //!
 //! | number | |
 //! |---|---|
-//! | 0 | the call: 1 crc32c, 2 check_rmaps, 3 check_refcounts, 4 check_block, 5 plan, 6 build, 7 walk, 8 insert, 9 insert_shared, 10 remove, 11 release, 12 let_go, 13 a walk over blocks that are given one by one, 14 take_held, 15 crc32c_singly, 16 walk_linked, 17 a walk_linked over blocks that are given one by one; 0 after the last case |
+//! | 0 | the call: 1 crc32c, 2 check_rmaps, 3 check_refcounts, 4 check_block, 5 plan, 6 build, 7 walk, 8 insert, 9 insert_shared, 10 remove, 11 release, 12 let_go, 13 a walk over blocks that are given one by one, 14 take_held, 15 crc32c_singly, 16 walk_linked, 17 a walk_linked over blocks that are given one by one, 18 lookup; 0 after the last case |
 //! | 1 | the answer |
 //! | 2 to 9 | the four figures, high half first |
 //! | 10 to 13 | version, block size, agblocks, agno |
@@ -16,12 +16,13 @@
 //! | 21, 22 | owner; the records of a plan; in 21 the blocks that a walk of 13 or 17 is given |
 //! | 23, 24 | offset |
 //! | 25, 26 | bytes of the two inputs |
-//! | 27, 28, 29 | bytes of the three outputs; of a walk (7, 13, 16 and 17) 29 is 1 where it leaves stack and scratch zero, 0 where they are untouched |
-//! | 30, 31 | of a walk: places of the stack and of the scratch |
+//! | 27, 28, 29 | bytes of the three outputs; of a walk (7, 13, 16 and 17) 29 is 1 where it leaves stack and scratch zero, 0 where they are untouched, of a lookup the same of its stack |
+//! | 30, 31 | of a walk: places of the stack and of the scratch; of a lookup in 30 those of the stack |
 //!
 //! Then the inputs, then what each output holds afterwards, all of it: outputs
 //! are lent filled with the byte 0xA5. The second input of a build is its
-//! block numbers. What a plan and a walk leave in the nine places and in the
+//! block numbers, that of a lookup the numbers asked; the first output of a
+//! lookup is its answers, 8 bytes each. What a plan and a walk leave in the nine places and in the
 //! block list, lent filled so too, stands where an input would: the first of
 //! a plan, the second of a walk. After the inputs of 13 and 17 come the blocks,
 //! each as its place in the image and its bytes.
@@ -32,6 +33,7 @@ use crate::held;
 use crate::library::{self, Edit, Walk};
 use crate::links;
 use crate::lists;
+use crate::lookups::{self, Due, Left, Lookup};
 use crate::real;
 use crate::trees;
 use oracle::refusal::Outcome;
@@ -43,7 +45,7 @@ use std::collections::BTreeMap;
 const FILL: u8 = 0xA5;
 
 /// The calls by their number in a case.
-const CALLS: [&str; 18] = [
+const CALLS: [&str; 19] = [
     "end",
     "crc32c",
     "check_rmaps",
@@ -62,6 +64,7 @@ const CALLS: [&str; 18] = [
     "crc32c_singly",
     "walk_linked",
     "walk_linked of real blocks",
+    "lookup",
 ];
 
 #[derive(Default)]
@@ -441,6 +444,75 @@ fn walk_case(
     c
 }
 
+/// What a lookup shows that was done, or refused by 29.
+fn lookup_kind(l: &Lookup, due: &Due) -> Option<&'static str> {
+    let seen = &due.visited;
+    let twice = (1..seen.len()).any(|i| seen[..i].contains(&seen[i]));
+    let Left::Found(found) = &due.left else {
+        return match l.asked.windows(2).all(|w| w[0] < w[1]) {
+            true => Some("fewer places than numbers"),
+            false => Some("numbers that do not ascend"),
+        };
+    };
+    let most = found.iter().max().copied().unwrap_or(0);
+    match (l.levels, found.len()) {
+        (2.., 0) => Some("no number asked"),
+        (2.., 3..) if twice && most > 1 => Some("a block met twice"),
+        (2.., 1..) if seen.len() == 1 => Some("all children skipped"),
+        (2.., 3..) if seen.len() > 2 && !twice && most > 1 => Some("some of several blocks"),
+        (1, 3..) if most > 1 => Some("one leaf"),
+        _ => None,
+    }
+}
+
+fn lookup_cases(r: &mut Random, cases: &mut Cases) {
+    let mut shown: BTreeMap<&str, u32> = BTreeMap::new();
+    for _ in 0..6000 {
+        let l = lookups::small(r);
+        let due = l.due();
+        let wanted = match due.number {
+            0 | 29 => lookup_kind(&l, &due).is_some_and(|kind| {
+                let n = shown.entry(kind).or_default();
+                *n += 1;
+                *n <= if due.number == 0 { 2 } else { 1 }
+            }),
+            // Where it can be, past the root, so that there are answers to make zero.
+            n => {
+                let past = matches!(n, 1 | 3 | 11 | 12) || due.visited.len() > 1;
+                past && !l.asked.is_empty() && cases.wants(18, n, 1)
+            }
+        };
+        if wanted {
+            cases.add(lookup_case(&l, &due));
+        }
+    }
+    assert_eq!(shown.len(), 7, "{shown:?}");
+    let by: Vec<&str> = shown.into_keys().collect();
+    println!(
+        "lookup, done two each, refused by 29 one: {}",
+        by.join("; ")
+    );
+    for n in lookups::ANSWERS {
+        assert!(cases.seen.contains_key(&(18, n)), "no lookup answers {n}");
+    }
+}
+
+fn lookup_case(l: &Lookup, due: &Due) -> Case {
+    let answers: Vec<u64> = match &due.left {
+        Left::Untouched => vec![],
+        Left::Zero => vec![0; l.answers],
+        Left::Found(found) => found.clone(),
+    };
+    let answers: Vec<u8> = answers.iter().flat_map(|n| n.to_be_bytes()).collect();
+    let c = Case::new(18, (due.number, due.figures)).geometry(&l.g, Tree::Rmap);
+    let c = c.two(l.root, l.levels);
+    let c = c.given(&l.image, &number_bytes(&l.asked));
+    let mut c = c.output(0, 8 * l.answers, &answers);
+    c.head[29] = u32::from(due.left != Left::Untouched);
+    c.head[30] = l.stack as u32;
+    c
+}
+
 /// Trees of real volumes: each of their blocks checked, and the walk as far
 /// as the group's image is small.
 fn real_cases(files: &[String], cases: &mut Cases) {
@@ -505,6 +577,7 @@ pub fn sample(words: &[String]) {
     walk_cases(&mut r, &mut cases);
     held_cases(&mut r, &mut cases);
     real_cases(real, &mut cases);
+    lookup_cases(&mut r, &mut cases);
     let mut out = Vec::new();
     for c in &cases.all {
         out.extend(number_bytes(&c.head));

@@ -29,6 +29,17 @@ impl Tally {
         assert_eq!(ways, 2, "{what}: not both ways were met");
     }
 
+    /// The call was met with each of these answers and with no other, or the run
+    /// has not compared what it should.
+    pub fn met_all(&self, call: &str, answers: &[u32]) {
+        let met = self.counts.keys().filter(|k| k.0 == call).map(|k| k.1);
+        let met: Vec<u32> = met.collect();
+        assert_eq!(
+            met, answers,
+            "{call}: the answers met, and those that it has"
+        );
+    }
+
     /// The calls made so far.
     pub fn calls(&self) -> u64 {
         self.counts.values().sum()

@@ -151,7 +151,7 @@ pub fn one_build(
 }
 
 /// How many records a tree to try has: around full leaves and full nodes.
-fn sizes(r: &mut Random, g: &Geometry, tree: Tree) -> usize {
+pub fn sizes(r: &mut Random, g: &Geometry, tree: Tree) -> usize {
     // Block sizes past the largest are for question 1 alone.
     let size = g.block_size.min(4096) as usize;
     let leaf = size.saturating_sub(56) / tree.record_len();
@@ -385,7 +385,8 @@ pub fn walks(r: &mut Random, scale: u64, tally: &mut Tally) {
         else {
             continue;
         };
-        // A limit above, at and below the blocks of the tree.
+        // A limit above the blocks of the tree, and at and below them where they
+        // are more than 64, as they are in some trees of shared counts.
         g.agblocks = match r.below(4) {
             0 => 0,
             1 => total as u32,

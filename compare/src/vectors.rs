@@ -1,13 +1,14 @@
 //! The layer over vectors, `kf::Group` and `kf::Tree`, beside the original with
 //! as much memory as it may want (a walk with what the layer has room for): the
 //! same lists, blocks and free extents, or the same refusal, which is never 12,
-//! 18 or 26.
+//! 18 or 26. A lookup is held against its definition.
 
 use crate::edits;
 use crate::held;
 use crate::lent::hex;
 use crate::library::Edit;
 use crate::links;
+use crate::lookups::{self, Lookup};
 use crate::tally::{differ, Tally};
 use crate::trees;
 use kf::{Group, Kind, Refusal, Root};
@@ -200,6 +201,29 @@ fn walk(r: &mut Random, tally: &mut Tally) {
     tally.add("Tree::walk", got.err().map_or(0, |(n, _)| n));
 }
 
+fn lookup(r: &mut Random, tally: &mut Tally) {
+    let mut l = lookups::small(r);
+    // The layer lends a stack that is long enough, and a place for each number.
+    l.stack = MOST;
+    l.answers = l.asked.len();
+    let Lookup { g, image, .. } = &l;
+    let root = Root::new(l.root, l.levels, 0);
+    let got = kf::Tree::lookup(&geometry(g), image, root, &l.asked)
+        .map(|found| (found.holders, found.visits))
+        .map_err(|refused| (refused.refusal.number, refused.visits));
+    let due = l.due();
+    let visits = due.visited.len();
+    let due = match due.left {
+        lookups::Left::Found(answers) => Ok((answers, visits)),
+        _ => Err((due.number, visits)),
+    };
+    if got != due {
+        let (say, told) = (format!("{got:?}"), format!("{due:?}"));
+        differ("Tree::lookup", "result", &say, &told, &l.input());
+    }
+    tally.add("Tree::lookup", got.err().map_or(0, |(n, _)| n));
+}
+
 pub fn vectors(r: &mut Random, scale: u64, tally: &mut Tally) {
     for _ in 0..200_000 * scale {
         let (map, counts, x, _) = held::take(r);
@@ -212,4 +236,9 @@ pub fn vectors(r: &mut Random, scale: u64, tally: &mut Tally) {
         build(r, tally);
         walk(r, tally);
     }
+    for _ in 0..5_000 * scale {
+        lookup(r, tally);
+    }
+    let lends: Vec<u32> = lookups::ANSWERS.into_iter().filter(|&n| n != 12).collect();
+    tally.met_all("Tree::lookup", &lends);
 }

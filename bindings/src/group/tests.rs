@@ -361,6 +361,10 @@ fn any_root() {
                         };
                         assert_eq!(refused.refusal.number, wanted, "{g:?} {root:?}");
                         assert_eq!(refused.kind, kind);
+                        if kind == Kind::Rmap {
+                            let looked = Tree::lookup(&g, &image, root, &[1, 2]);
+                            assert_eq!(looked, Err(refused));
+                        }
                     }
                 }
             }
@@ -435,4 +439,83 @@ fn more_than_the_first_room() {
     damaged[400 * 512] ^= 1;
     let refused = Tree::walk(&g, Kind::Rmap, &damaged, root).unwrap_err();
     assert_eq!(refused.refusal.question(), Some(Question::Magic));
+}
+
+/// Trees of several levels and block sizes: each answer is what counting over
+/// the walk gives, the visits are no more than the walk's, and the stack that is
+/// lent is enough.
+#[test]
+fn looked_up_as_counted() {
+    let mut random = Random(7);
+    for (blocksize, n) in [(512, 0), (512, 19), (512, 4000), (1024, 900), (4096, 500)] {
+        let g = Geometry::new(5, blocksize, 4000, 0, [7; 16]);
+        let mut records: Vec<Rmap> = (0..n)
+            .map(|i| Rmap {
+                startblock: random.below(3 * n) as u32,
+                blockcount: 1 + random.below(if i % 50 == 0 { n } else { 4 }) as u32,
+                owner: i as i64,
+                offset: 0,
+            })
+            .collect();
+        records.sort_by_key(|r| (r.startblock, r.owner));
+        let map = records.iter().flat_map(|r| r.to_bytes()).collect();
+        let group = Group::new(map, vec![]);
+        let plan = group.plan(&g, Kind::Rmap).unwrap();
+        let numbers: Vec<u32> = (0..plan.total as u32).collect();
+        let image = group.build(&g, Kind::Rmap, &numbers).unwrap();
+        let root = plan.root(&numbers).unwrap();
+        let last = 4 * n as u32 + 2;
+        let mut fewer = false;
+        for (from, step) in [(0, 1), (0, 7), (last / 2, last as usize), (u32::MAX, 1)] {
+            let mut asked: Vec<u32> = (from..last).step_by(step).collect();
+            asked.push(u32::MAX);
+            let found = Tree::lookup(&g, &image, root, &asked).unwrap();
+            let counted = asked.iter().map(|&a| {
+                let over = |r: &&Rmap| r.startblock <= a && u64::from(a) < r.end();
+                records.iter().filter(over).count() as u64
+            });
+            assert!(counted.eq(found.holders), "{n} records at {blocksize}");
+            assert!((1..=numbers.len()).contains(&found.visits));
+            fewer |= found.visits < numbers.len();
+        }
+        assert_eq!(fewer, numbers.len() > 1);
+        // The root's block check, also where nothing is asked.
+        let found = Tree::lookup(&g, &image, root, &[]).unwrap();
+        assert_eq!((found.holders, found.visits), (vec![], 1));
+        for asked in [[5, 5], [6, 5]] {
+            let refused = Tree::lookup(&g, &image, root, &asked).unwrap_err();
+            assert_eq!(refused.refusal.question(), Some(Question::Asked));
+            assert_eq!((refused.kind, refused.visits), (Kind::Rmap, 0));
+        }
+    }
+}
+
+/// A damaged leaf is refused where it is read, and skipped where no number lies
+/// between its keys.
+#[test]
+fn looked_up_in_a_damaged_tree() {
+    let g = Geometry::new(5, 512, 9, 0, [7; 16]);
+    let records = (0..57).flat_map(|i| {
+        let r = Rmap {
+            startblock: 4 * i,
+            blockcount: 2,
+            owner: 7,
+            offset: 0,
+        };
+        r.to_bytes()
+    });
+    let group = Group::new(records.collect(), vec![]);
+    let mut image = group.build(&g, Kind::Rmap, &[0, 1, 2, 3]).unwrap();
+    image[512] ^= 1;
+    let root = Root::new(3, 2, 4);
+    // The middle leaf has the records from 4 x 19 to 4 x 37, so blocks 76 to 149.
+    for asked in [[75, 150], [0, 226]] {
+        assert!(Tree::lookup(&g, &image, root, &asked).is_ok());
+    }
+    for asked in [[0, 76], [149, 300]] {
+        let refused = Tree::lookup(&g, &image, root, &asked).unwrap_err();
+        assert_eq!(refused.refusal.question(), Some(Question::Magic));
+        let before = usize::from(asked[0] == 0);
+        assert_eq!(refused.visits, 2 + before);
+    }
 }

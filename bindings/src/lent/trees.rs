@@ -256,8 +256,9 @@ pub struct Lent<'a> {
 }
 
 impl<'a> Lent<'a> {
-    /// The places that a walk's stack has to have: twice the levels, times the
-    /// entries that a node has room for. It is 0 where 1 or 11 refuses the walk.
+    /// The places that the stack of a walk, or of a [`lookup`], has to have: twice
+    /// the levels, times the entries that a node has room for. It is 0 where 1 or
+    /// 11 refuses the walk.
     ///
     /// ```
     /// let g = kf::Geometry::new(5, 4096, 100, 0, [7; 16]);
@@ -455,4 +456,88 @@ pub fn walk_linked(
 ) -> Result<(Walked, bool), WalkRefusal> {
     walk_by(raw::kf_walk_linked, g, kind, image, root, levels, lent)
         .map(|(walked, linked)| (walked, linked == 1))
+}
+
+/// How many records of the reverse map lie over each of the block numbers
+/// `asked`, in one descent from the root; `answers[i]` is that of `asked[i]`.
+/// Gives the visits. The image is the group, block n at n times the block size.
+/// Questions 1, 11, 12 (the stack alone, of [`Lent::stack_places`] places or
+/// more) and 29, then at each block 13, 14 and 3 to 10.
+///
+/// A child of a node is skipped where none of the numbers lies from its low
+/// key's start to its high key's start, both included. The root is visited
+/// always. An answer counts the records of the leaves visited. Where [`walk`]
+/// reads the tree, its records are accepted ([`check_rmaps`](crate::check_rmaps))
+/// and its keys are those of its records, as in the tree of a [`build`], these
+/// are all records over the block, and no block is visited more often than by
+/// the walk. That is proved. Nothing asks whether the keys are so: in a tree with
+/// other keys a block that a record holds can be answered 0, so there 0 does not
+/// say that a block is free.
+///
+/// ```
+/// use kf::{build, lookup, Geometry, Kind, Lent, Question, Rmap};
+/// let g = Geometry::new(5, 512, 9, 0, [7; 16]);
+/// // 50 records: blocks 8 and 9, 16 and 17, .., 400 and 401.
+/// let list: Vec<u8> = (1..=50)
+///     .flat_map(|i| Rmap { startblock: 8 * i, blockcount: 2, owner: 7, offset: 0 }.to_bytes())
+///     .collect();
+/// // Three leaves and the root, one after another; a walk visits all four.
+/// let mut image = [0; 4 * 512];
+/// build(&g, Kind::Rmap, &list, &[0, 1, 2, 3], &mut image).unwrap();
+/// let mut stack = vec![0; Lent::stack_places(&g, Kind::Rmap, 2)];
+/// let mut answers = [0; 4];
+///
+/// // Inside records of the first leaf and between them: the root and that leaf.
+/// let asked = [8, 9, 10, 17];
+/// let visits = lookup(&g, &image, 3, 2, &asked, &mut stack, &mut answers).unwrap();
+/// assert_eq!((visits, answers), (2, [1, 1, 0, 1]));
+/// // Before all records and after them: the root alone.
+/// let visits = lookup(&g, &image, 3, 2, &[7, 402], &mut stack, &mut answers).unwrap();
+/// // What lies past the answers stays.
+/// assert_eq!((visits, answers), (1, [0, 0, 0, 1]));
+///
+/// // They have to ascend, and each has to have its place.
+/// let refused = lookup(&g, &image, 3, 2, &[9, 8], &mut stack, &mut answers).unwrap_err();
+/// assert_eq!(refused.refusal.question(), Some(Question::Asked));
+/// let refused = lookup(&g, &image, 3, 2, &[7, 8, 9], &mut stack, &mut answers[..2]);
+/// assert_eq!(refused.unwrap_err().refusal.number, 29);
+/// // That touched nothing.
+/// assert_eq!(answers, [0, 0, 0, 1]);
+/// ```
+pub fn lookup(
+    g: &Geometry,
+    image: &[u8],
+    root: u32,
+    levels: u32,
+    asked: &[u32],
+    stack: &mut [u32],
+    answers: &mut [u64],
+) -> Result<usize, WalkRefusal> {
+    let mut said = [0; 4];
+    let (high, low) = g.uuid_halves();
+    // SAFETY: two slices that the call reads, two that it writes, which do not
+    // overlap, and four numbers that it writes.
+    let n = unsafe {
+        raw::kf_lookup(
+            g.version,
+            g.blocksize,
+            g.agblocks,
+            g.agno,
+            high,
+            low,
+            image.as_ptr(),
+            image.len(),
+            root,
+            levels,
+            asked.as_ptr(),
+            asked.len(),
+            stack.as_mut_ptr(),
+            stack.len(),
+            answers.as_mut_ptr(),
+            answers.len(),
+            &mut said,
+        )
+    };
+    answer(n, &said, said[0] as usize)
+        .map_err(|refusal| WalkRefusal::new(Kind::Rmap, refusal, said[2] as usize))
 }
