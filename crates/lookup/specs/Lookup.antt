@@ -36,7 +36,7 @@ unfoldable pub tallies : List Rmap → List ℕ → List ℕ
 tallies rs [] = []
 tallies rs (a ∷ more) = holders rs a ∷ tallies rs more
 
--- ---- a look that leaves children out
+-- ---- a look that skips children
 
 -- the starts of child i's low and high key; the high key is the second half of its keys
 abbrev pub lowStart : Shape → List ℕ → ℕ → ℕ

@@ -29,7 +29,7 @@ use Rattle.walks.proofs.LookLaws.{part-long, node-most, under-leaf, und
 use Rattle.walks.proofs.WalkLaws.{restOf, rest-done, rest-good, Walking, walking-first, walking-next, step-good}
 use Rattle.walks.proofs.PathLaws.{path-below, path-cons, path-end, in-block}
 
--- ---- a walk leaves no child out
+-- ---- a walk skips no child
 
 pub children-all : (s : Shape) (part : List ℕ) (level i k : ℕ) → childrenFrom (every part) s part level i k ≡ pointers part (firstPointer s + i * 4) level k
 unfolding childrenFrom pointers

@@ -28,7 +28,7 @@ childrenFrom keep s part level i zero = []
 childrenFrom keep s part level i (suc k) =
     cond (keep i) (childAt s part level i ∷ childrenFrom keep s part level (suc i) k) (childrenFrom keep s part level (suc i) k)
 
--- a walk leaves none out
+-- a walk skips none
 abbrev pub every : List ℕ → ℕ → Bool
 every part i = true
 

@@ -109,7 +109,7 @@ sub-t20 c = let t = c .before .before .before .before .before in omega (arith, o
 same-length : tie.Need-same-length Inv-loop μ-loop
 same-length c =
     let l = c .before .before .before .before .before .before .loop in
-    length-set (l .pairs) (l .level * 2 + 1) (getD (l .pairs) (l .level * 2 + 1) 0 + 1) ∙ ap length (l .inv .1)
+    length-set (l .pairs) (l .level * 2 + 1) _ ∙ ap length (l .inv .1)
 
 returns : tie.Need-returns Inv-loop μ-loop
 returns c =
