@@ -19,7 +19,7 @@ use Rattle.walks.specs.declared.walk.Linking.{Linking}
 use Rattle.trees.specs.Plan.{sum}
 use Rattle.trees.specs.PlanAnswer.{PlanIs, planNumber, planValues, planOutcome, answerOutcome, levelsSaid, levelsIn}
 use Rattle.walks.specs.Walk.{Trace}
-use Rattle.walks.specs.WalkCall.{walkOf, lent}
+use Rattle.walks.specs.WalkCall.{Report, walkOf, lent}
 use Rattle.walks.specs.WalkAnswer.{WalkIs, walkedReport}
 use Rattle.walks.specs.Links.{LinkingIs}
 use Rattle.interface.specs.Interface.{numberOf, Says}
@@ -71,7 +71,7 @@ walk-says : {fourth w levels : ℕ} {o : Outcome Trace} {walked : Walked} {a r :
     → Walks fourth w levels o r said stack stack′ scratch scratch′ blocks blocks′ out out′
 walk-says is h s =
     record {
-      answer = reports h (is .answer) s;
+      answer = reports h (ap (λ (p : Report). p .outcome) (is .answer)) (ap (λ (p : Report). p .passed) (is .answer)) s;
       leaves = record { stack-is = is .stack-is; scratch-is = is .scratch-is; blocks-are = is .blocks-are; records-are = is .records-are };
     }
 

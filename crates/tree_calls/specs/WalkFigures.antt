@@ -10,14 +10,22 @@ use Rattle.walks.specs.WalkCall.{Counts, Report, report, scratchAfter, blocksAf
 use Rattle.walks.specs.Links.{saysLinked}
 use Rattle.interface.specs.Interface.{numberOf, valueFigures}
 
--- visits, records, their bytes and a fourth figure; of a refusal its two values, then the blocks that passed 13
-abbrev pub walkFigures : ℕ → Outcome Counts → ℕ → List ℕ
-walkFigures fourth (done c) passed = c .visits ∷ c .records ∷ c .bytes ∷ fourth ∷ []
-walkFigures fourth (refused n v) passed = valueFigures v passed
+-- f of the result; of a refusal its two values, then the blocks that passed 13
+abbrev pub visitFigures : {A : Type 0} → (A → List ℕ) → Outcome A → ℕ → List ℕ
+visitFigures f (done x) passed = f x
+visitFigures f (refused n v) passed = valueFigures v passed
 
-pub record Reports (fourth : ℕ) (p : Report) (r : ℕ) (said : List ℕ) : Type 0 where
-  pub number : r ≡ numberOf (p .outcome)
-  pub figures : said ≡ walkFigures fourth (p .outcome) (p .passed)
+-- a call that visits blocks, that comes to o and of which so many passed 13, answers r and leaves these figures
+pub record TellsVisits {A : Type 0} (f : A → List ℕ) (o : Outcome A) (passed r : ℕ) (said : List ℕ) : Type 0 where
+  pub number : r ≡ numberOf o
+  pub figures : said ≡ visitFigures f o passed
+
+-- a walk: visits, records, their bytes and a fourth figure
+abbrev pub walkFigures : ℕ → Counts → List ℕ
+walkFigures fourth c = c .visits ∷ c .records ∷ c .bytes ∷ fourth ∷ []
+
+abbrev pub Reports : ℕ → Report → ℕ → List ℕ → Type 0
+Reports fourth p r said = TellsVisits (walkFigures fourth) (p .outcome) (p .passed) r said
 
 -- the four lent slices after a walk that comes to o, of a tree of so many levels
 pub record Leaves (levels : ℕ) (o : Outcome Trace) (stack stack′ scratch scratch′ blocks blocks′ out out′ : List ℕ) : Type 0 where

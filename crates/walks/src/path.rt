@@ -1,5 +1,5 @@
-// The blocks that are due in a walk or a lookup, kept as nine pairs: for each level a block and its next child. A node is not checked again when the walk comes back to
-// it: the image is lent for reading, so its count and pointers are still those that passed.
+// The blocks that are due in a walk or a lookup, kept as nine pairs: for each level a block and its next child. A node is not checked again when it is come
+// back to: the image is lent for reading, so its count and pointers are still those that passed.
 ghost use mathlib.Core.Path.{_≡_};
 ghost use mathlib.Core.Bool.{true};
 ghost use Prim.Native.Nat.{_+_, _*_, _≤_, _<_};
