@@ -3,14 +3,14 @@
 use Prim.Native.Nat.{ℕ}
 use Rattle.codec.specs.Question.{Values, none, Outcome, done, refused}
 use Rattle.codec.specs.declared.check.ListRefusal.{ListRefusal}
-use Rattle.codec.specs.declared.check.ListRefusal.the-variants.{Length, RmapOrder, RefcountOrder}
+use Rattle.codec.specs.declared.check.ListRefusal.the-variants.{Length, RmapOrder, ExtentOrder}
 use Rattle.codec.specs.declared.check.ListChecked.{ListChecked}
 use Rattle.codec.specs.declared.check.ListChecked.the-variants.{Accepted, Refused}
 
 abbrev pub listNumber : ListRefusal → ℕ
 listNumber Length = 19
 listNumber RmapOrder = 20
-listNumber RefcountOrder = 21
+listNumber ExtentOrder = 21
 
 -- no question on a list has values
 abbrev pub listValues : ListRefusal → Values

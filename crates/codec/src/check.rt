@@ -12,8 +12,8 @@ pub enum ListRefusal {
     Length,
     // a reverse-map record is not good, or stands before its place
     RmapOrder,
-    // a shared count is not good, or stands before its place
-    RefcountOrder,
+    // a shared count or a free extent is not good, or stands before its place
+    ExtentOrder,
 }
 
 pub enum ListChecked {
@@ -30,7 +30,7 @@ impl ListRefusal {
         match self {
             ListRefusal::Length => Told::plain(19),
             ListRefusal::RmapOrder => Told::plain(20),
-            ListRefusal::RefcountOrder => Told::plain(21),
+            ListRefusal::ExtentOrder => Told::plain(21),
         }
     }
 }

@@ -139,7 +139,7 @@ pub fn check_order(list: &[u8]) -> ListChecked
         return ListChecked::Refused(ListRefusal::Length);
     }
     if !accepted(list) {
-        return ListChecked::Refused(ListRefusal::RefcountOrder);
+        return ListChecked::Refused(ListRefusal::ExtentOrder);
     }
     ListChecked::Accepted(list.len() / REFCOUNT_LEN)
 }

@@ -59,7 +59,7 @@ lengths-done n (refused m w) e = let z : _≡_ {A = ℕ} 0 1 = cc in absurd (ome
 list-early : (r : ListRefusal) → listNumber r < 22
 list-early list.Length = omega arith
 list-early list.RmapOrder = omega arith
-list-early list.RefcountOrder = omega arith
+list-early list.ExtentOrder = omega arith
 
 -- ---- the small functions
 

@@ -14,7 +14,7 @@ use Rattle.codec.specs.Bytes.{IsBytes, bytesAt}
 use Rattle.codec.specs.Records.{recordsOf, bytesOf, refcounts, freeExtents, AllStorable}
 use Rattle.codec.specs.Accepted.{inOrder}
 use Rattle.codec.specs.Refcounts.{staging, block, end, good, follows, least, accepted}
-use Rattle.codec.specs.declared.check.ListRefusal.the-variants.{RefcountOrder}
+use Rattle.codec.specs.declared.check.ListRefusal.the-variants.{ExtentOrder}
 use Rattle.codec.specs.declared.refcount.Refcount.{Refcount}
 use Rattle.codec.specs.declared.free_extent.FreeExtent.{FreeExtent}
 use Rattle.codec.proofs.Parts.{length-bytesAt}
@@ -314,7 +314,7 @@ module _ (up write list : Bool) (all : List Refcount) (start count : ℕ) (new�
       }
 
   module _ (new′ free′ : List ℕ) where
-    pub told-order : accepted all ≡ false → PassIs up write list all start count (released.Refused (why.List RefcountOrder)) new₀ new′ free₀ free′
+    pub told-order : accepted all ≡ false → PassIs up write list all start count (released.Refused (why.List ExtentOrder)) new₀ new′ free₀ free′
     unfolding passOutcome
     told-order h = record { said = rw h refl; counts = λ u. never _ (ask .accepted u) h; extents = λ u. never _ (ask .accepted (ask .listed u)) h }
 

@@ -174,11 +174,11 @@ pub(crate) fn pass(
     while i < n {
         let r = decode(counts, i * REFCOUNT_LEN);
         if !good(r) {
-            return Released::Refused(EditRefusal::List(ListRefusal::RefcountOrder));
+            return Released::Refused(EditRefusal::List(ListRefusal::ExtentOrder));
         }
         let prev = w.prev;
         if !follows(prev, r) {
-            return Released::Refused(EditRefusal::List(ListRefusal::RefcountOrder));
+            return Released::Refused(EditRefusal::List(ListRefusal::ExtentOrder));
         }
         w = step(w, r, s, e, how, new, free, pass);
         let next = i + 1;

@@ -1,0 +1,10 @@
+pub mod Cases
+pub mod Extents
+pub mod Ordered
+pub mod Occurring
+pub mod Removing
+pub mod Sameness
+pub mod Covering
+pub mod Searching
+pub mod Answering
+pub mod Instances

@@ -1,0 +1,2 @@
+-- What private functions promise one another.
+pub mod Searches
