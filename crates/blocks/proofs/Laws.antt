@@ -17,10 +17,10 @@ use Rattle.codec.specs.Bytes.{bytesAt}
 use Rattle.blocks.specs.Check.{same}
 use Rattle.blocks.specs.Geometry.{among, isVersion, isBlockSize, linearOf, addressOf, geometryOk}
 use Rattle.blocks.specs.Offsets.{v4HeaderLen, v5HeaderLen}
-use Rattle.blocks.specs.Tree.{headerLen, magicOf, recordLen, keysLen, ptrLen, entryLen, placeLen, capacity}
+use Rattle.blocks.specs.Tree.{byVersion, headerLen, magicOf, overlapping, recordLen, keysLen, ptrLen, entryLen, placeLen, capacity}
 use Rattle.blocks.specs.declared.geometry.Geometry.{Geometry}
 use Rattle.blocks.specs.declared.kind.TreeKind.{TreeKind}
-use Rattle.blocks.specs.declared.kind.TreeKind.the-variants.{Rmap, Refcount}
+use Rattle.blocks.specs.declared.kind.TreeKind.the-variants.{Rmap, Refcount, ByBlock, BySize}
 
 -- ---- one number of a list
 
@@ -119,7 +119,14 @@ module _ (g : Geometry) (ok : geometryOk g ≡ true) where
 
 -- ---- lengths
 
--- what holds of every kind: the one law here that goes by the kind
+by-version-small : {four five : ℕ} (version : ℕ) → four < 2 ^ 32 → five < 2 ^ 32 → byVersion version four five < 2 ^ 32
+by-version-small {four} {five} version a b = go (eqb version 5)
+  where
+    go : (t : Bool) → cond t five four < 2 ^ 32
+    go true = b
+    go false = a
+
+-- what holds of every kind; this and the two laws after it are the only ones here that go by the kind
 pub record Bounded (kind : TreeKind) : Type 0 where
   pub record-least : 8 ≤ recordLen kind
   pub record-most : recordLen kind ≤ 40
@@ -132,6 +139,23 @@ bounded Rmap =
     record { record-least = lit≤ tt; record-most = lit≤ tt; keys-least = lit≤ tt; keys-most = lit≤ tt; magic-small = λ version. lit≤ tt }
 bounded Refcount =
     record { record-least = lit≤ tt; record-most = lit≤ tt; keys-least = lit≤ tt; keys-most = lit≤ tt; magic-small = λ version. lit≤ tt }
+bounded ByBlock =
+    record { record-least = lit≤ tt; record-most = lit≤ tt; keys-least = lit≤ tt; keys-most = lit≤ tt; magic-small = λ version. by-version-small version (lit≤ tt) (lit≤ tt) }
+bounded BySize =
+    record { record-least = lit≤ tt; record-most = lit≤ tt; keys-least = lit≤ tt; keys-most = lit≤ tt; magic-small = λ version. by-version-small version (lit≤ tt) (lit≤ tt) }
+
+-- the reverse map alone has a low and a high key; a key of the others lies within the record
+pub overlapping-is : (kind : TreeKind) → overlapping kind ≡ true → kind ≡ Rmap
+overlapping-is Rmap e = refl
+overlapping-is Refcount e = absurd (false≢true e)
+overlapping-is ByBlock e = absurd (false≢true e)
+overlapping-is BySize e = absurd (false≢true e)
+
+pub key-within : (kind : TreeKind) → overlapping kind ≡ false → keysLen kind ≤ recordLen kind
+key-within Rmap e = absurd (false≢true (sym e))
+key-within Refcount e = lit≤ tt
+key-within ByBlock e = lit≤ tt
+key-within BySize e = lit≤ tt
 
 -- a place of a block has 8 to 44 bytes
 place-within : (kind : TreeKind) (level : ℕ) → (8 ≤ placeLen kind level) × (placeLen kind level ≤ 44)

@@ -62,8 +62,8 @@ fn stamp_identity(g: Geometry, block: AgBlock, b: &mut [u8])
     put_be32(b, offsets::OWNER, agno);
 }
 
-// The header of a fresh block, with its check: on version 5 all of its fields, on version 4, which has neither kind of today, those of every version.
-// The check is over all of `b`, so what stands after the header has to be there already. The caller has asked questions 1 to 3.
+// The header of a fresh block: on version 5 all of its fields, with the check, on version 4 those of every version. The check is over all of `b`, so
+// what stands after the header has to be there already. The caller has asked questions 1 to 3.
 pub fn stamp(
     g: Geometry,
     kind: TreeKind,

@@ -2,7 +2,7 @@
 -- Assumes nothing.
 use Prim.Native.Nat.{ℕ, _*_, _≤_}
 use mathlib.Core.Bool.{true}
-use mathlib.Core.Path.{_≡_}
+use mathlib.Core.Path.{_≡_, refl}
 use mathlib.Core.List.{List}
 use lib.ListN.{length}
 use borrow.Author.Tests.{le-leb, eq-eqb}
@@ -11,7 +11,7 @@ use Rattle.codec.specs.Question.{done}
 use Rattle.codec.specs.Accepted.{whole}
 use Rattle.blocks.specs.declared.geometry.Geometry.{Geometry}
 use Rattle.blocks.specs.declared.kind.TreeKind.{TreeKind}
-use Rattle.blocks.specs.declared.kind.TreeKind.the-variants.{Rmap, Refcount}
+use Rattle.blocks.specs.declared.kind.TreeKind.the-variants.{Rmap, Refcount, ByBlock, BySize}
 use Rattle.blocks.specs.Tree.{hasTree, recordLen}
 use Rattle.trees.specs.Plan.{sum}
 use Rattle.walks.specs.WalkCall.{Lent}
@@ -22,10 +22,12 @@ use Rattle.trees.specs.RoundTrip.{levelsFor}
 use Rattle.trees.proofs.BuiltReturned.{stored-returned}
 use Rattle.groups.specs.History.{Stored, Returned}
 
--- version 5 has both trees
+-- version 5 has every tree
 has-tree : (kind : TreeKind) (version : ℕ) → version ≡ 5 → hasTree kind version ≡ true
 has-tree Rmap version e = eq-eqb version 5 e
 has-tree Refcount version e = eq-eqb version 5 e
+has-tree ByBlock version e = refl
+has-tree BySize version e = refl
 
 module _ (kind : TreeKind) (list : List ℕ) (small : IsBytes list) (length-ok : whole (recordLen kind) list ≡ true) (order-ok : ordered kind list ≡ true) where
   built : (g : Geometry) (numbers image : List ℕ) (room : ℕ) (lent : Lent) → Stored kind list g numbers image room lent

@@ -19,9 +19,9 @@ abbrev pub geometryOf : ℕ → ℕ → ℕ → ℕ → ℕ → ℕ → Geometry
 geometryOf version blocksize agblocks agno high low =
     record { version = version; blocksize = blocksize; agblocks = agblocks; agno = agno; «meta_uuid» = beBytes 8 high ++ beBytes 8 low }
 
--- 0 is the reverse map, any other number the counts
+-- 0 is the reverse map, 2 free space by block and 3 free space by size; 1, and any other number, the counts
 abbrev pub kindOf : ℕ → TreeKind
-kindOf n = cond (eqb n 0) kinds.Rmap kinds.Refcount
+kindOf n = cond (eqb n 0) kinds.Rmap (cond (eqb n 2) kinds.ByBlock (cond (eqb n 3) kinds.BySize kinds.Refcount))
 
 -- the extent of an edit
 abbrev pub extentOf : ℕ → ℕ → ℕ → ℕ → Rmap

@@ -29,14 +29,16 @@ pub fn geometry(
     }
 }
 
-// A kind of tree: 0 is the reverse map, any other number the counts.
+// A kind of tree: 0 is the reverse map, 2 free space by block and 3 free space by size; 1, and any other number, the counts.
 pub fn tree_kind(kind: u32) -> TreeKind
     ensures { λ r. ⌜ r ≡ kindOf kind ⌝ }
 {
-    if kind == 0 {
-        return TreeKind::Rmap;
+    match kind {
+        0 => TreeKind::Rmap,
+        2 => TreeKind::ByBlock,
+        3 => TreeKind::BySize,
+        _ => TreeKind::Refcount,
     }
-    TreeKind::Refcount
 }
 
 // The extent of an edit.

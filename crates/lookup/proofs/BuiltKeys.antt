@@ -34,7 +34,7 @@ use Rattle.walks.proofs.StackLaws.{pointers-length}
 use Rattle.walks.proofs.RunLaws.{run-none}
 use Rattle.trees.proofs.LevelWalk.{visitsTo, numbersOf, numbers-length, numbers-of-children, nodeSteps, Rooted, NodesSeen, AboveSeen, Level, length-next, level-next, steps-next, root-next}
 use Rattle.trees.proofs.LeafWalk.{leafSteps, leaf-count, leaf-high, LeavesSeen, leaves-walked, leaf-parts-length}
-use Rattle.trees.proofs.BlockBytes.{Held, keys-length, node-roomy, rest, block-body, held-both, above-seen, leaves-seen, numbers-take, numbers-drop}
+use Rattle.trees.proofs.BlockBytes.{Held, keys-length, node-roomy, rest, block-body, held-both, belows-leaves, above-seen, leaves-seen, numbers-take, numbers-drop}
 use Rattle.walks.proofs.DescendLaws.{Looked, looked}
 use Rattle.lookup.specs.Lookup.{lowStart, highStart}
 use Rattle.lookup.specs.Claims.{Theirs, recordsUnder, ChildKeys, KeysTheirs}
@@ -399,5 +399,5 @@ module _ (g : Geometry) (ok : geometryOk g ≡ true) (s : Sound (layoutOf g kind
       (subst (KeyedTree 0 ks (drop k numbers) cs) each
       (above-keyed ks 0 (drop k numbers) cs ts (record { walked = leaves-walked t look ns counts bytes leaves; high = λ j h. leaf-high t j ns counts bytes h })
       (leaves-fit t s look refl ns counts bytes fine) shaped′ rest-long (omega arith) (b .1)
-      (above-seen t s image 0 ks (drop k numbers) cs (numbers-drop k numbers small) (rw j (numbers-take k numbers small)) (omega arith) shaped′ rest-long (b .1))
+      (above-seen t s image 0 ks (drop k numbers) cs (numbers-drop k numbers small) (rw j (numbers-take k numbers small)) (belows-leaves t (take k numbers) (shares n k) bytes bytes-are) (omega arith) shaped′ rest-long (b .1))
       (leaves-keys ns counts bytes)))

@@ -29,7 +29,7 @@ use Rattle.trees.specs.BuildCall.{layoutOf}
 use Rattle.trees.proofs.LevelWalk as level
 use Rattle.trees.proofs.TreeKinds.{sound}
 use Rattle.trees.proofs.Stored.{build-made, held-blocks}
-use Rattle.trees.proofs.BlockBytes.{Held, held-both, above-seen, leaves-seen}
+use Rattle.trees.proofs.BlockBytes.{Held, held-both, belows-leaves, above-seen, leaves-seen}
 use Rattle.trees.proofs.SmallTree.{small, small-fits, numbers}
 use Rattle.lookup.specs.Lookup as lookup
 use Rattle.lookup.specs.Lookup.{lowStart, highStart, keeps, lookAsked, lookupOf}
@@ -80,9 +80,9 @@ one-number (suc i) = omega arith
 -- ---- what the walk's look shows
 
 root-look : lookIn sh image (visitOf 2 1) ≡ good (visitOf 0 0 ∷ visitOf 1 0 ∷ []) []
-unfolding tree.headerLen plan.sum plan.shareOf plan.sharesFrom level.visitsTo level.numbersOf
+unfolding building.childrenOf leafParts tree.headerLen plan.sum plan.shareOf plan.sharesFrom level.visitsTo level.numbersOf
 root-look =
-    above-seen t s image 0 (1 ∷ []) (2 ∷ []) kids one-number two-numbers (omega arith) (omega arith, omega arith, refl) refl (held .1) .0 .0
+    above-seen t s image 0 (1 ∷ []) (2 ∷ []) kids one-number two-numbers (belows-leaves t (0 ∷ 1 ∷ []) (10 ∷ 10 ∷ []) list list-bytes) (omega arith) (omega arith, omega arith, refl) refl (held .1) .0 .0
 
 leaf-look : lookIn sh image (visitOf 1 0) ≡ good [] (take 240 (drop 240 list))
 unfolding shared bytes.beBytes records.fieldBytes records.bytesOf tree.headerLen plan.sum

@@ -1,4 +1,5 @@
--- In reading order: what the calls on blocks, plans and builds say and leave, then those on walks, then the lookup.
+-- In reading order: what the calls on blocks, plans and builds say and leave, then those on walks, then the lookup, then that on two lists.
 pub mod TreeCalls
 pub mod WalkFigures
 pub mod LookupFigures
+pub mod SameFigures

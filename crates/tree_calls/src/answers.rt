@@ -13,8 +13,11 @@ ghost use Rattle.interface.specs.Interface.{numberOf, Says};
 ghost use Rattle.tree_calls.specs.TreeCalls.{headerFigures, planFigures, buildFigures};
 ghost use Rattle.tree_calls.specs.WalkFigures.{Reports, yesFigure};
 ghost use Rattle.tree_calls.specs.LookupFigures.{ReportsVisits};
+ghost use Rattle.free.specs.Same.{sameSaid};
+ghost use Rattle.tree_calls.specs.SameFigures.{sameFigures};
 use blocks::check::Checked;
 use codec::check::ListChecked;
+use free::same::Same;
 use interface::answer::Answer;
 use interface::answer::refused;
 use lookup::lookup::LookedUp;
@@ -74,6 +77,21 @@ pub(crate) fn yes_figure(so: bool) -> u64
         return 1;
     }
     0
+}
+
+pub(crate) fn same_answer(same: Same) -> Answer
+    ensures { λ a. ⌜ Says sameFigures (sameSaid same) (a .number) (a .figures) ⌝ }
+{
+    match same {
+        Same::Said(so) => {
+            let yes = yes_figure(so);
+            Answer {
+                number: 0,
+                figures: [yes, 0, 0, 0],
+            }
+        }
+        Same::Refused(r) => refused(r.told(), 0),
+    }
 }
 
 // With a fourth figure for a walk that read its tree.

@@ -17,7 +17,8 @@ use Rattle.trees.specs.Plan.{sum, shares}
 use Rattle.trees.specs.BlockLayout.{Links, Layout, Sized, Fresh, Sound}
 use Rattle.walks.specs.Walk.{perLeaf, perNode, Visit, visitOf, good, blockIn, pointers, firstPointer, under, lookIn}
 use Rattle.walks.specs.Links.{next}
-use Rattle.trees.specs.Build.{Child, Part, Block, padded, keysOf, pointersOf, leafPart, nodePart, leafParts, nodeParts, blockBytes, blocksOf, childrenOf, buildAbove, AreNumbers}
+use Rattle.trees.specs.Build.{Child, Part, Block, padded, keysOf, pointersOf, belowOf, leafPart, nodePart, leafParts, nodeParts, blockBytes, blocksOf, childrenOf, buildAbove, AreNumbers}
+use Rattle.trees.proofs.Padding.{padded-length, padded-bytes}
 use Rattle.trees.proofs.Sharing.{Shaped, Most, shares-most}
 use Rattle.trees.proofs.LevelWalk.{visitsTo, numbersOf, NodesSeen, AboveSeen, next-length, next-numbers}
 use Rattle.trees.proofs.LeafWalk.{LeavesSeen}
@@ -76,22 +77,50 @@ pointers-read l (c ∷ cs) p q at h e =
     (ap (λ (z : List ℕ). pointers z (at + 4) l (length cs)) (ap (λ (z : List ℕ). p ++ z) a ∙ b)
     ∙ pointers-read l cs (p ++ x) q (at + 4) (λ i. h (suc i)) (omega (arith, length-append p x, length-beBytes 4 (c .block))))
 
-padded-length : (n : ℕ) (l : List ℕ) → length l ≤ n → length (padded n l) ≡ n
-padded-length n l h = omega (arith, length-append l (replicate (n - length l) 0), length-replicate {A = ℕ} (n - length l) 0)
-
 -- an image holds blocks, each whole at its number
 abbrev pub Held : Layout → List ℕ → List Block → Type 0
 Held t image [] = Unit {0}
 Held t image (b ∷ bs) =
     ((b .number + 1) * t .shape .size ≤ length image) × (blockIn (t .shape .size) image (b .number) ≡ b .bytes) × Held t image bs
 
-padded-bytes : (n : ℕ) (l : List ℕ) → IsBytes l → IsBytes (padded n l)
-padded-bytes n l h = isBytes-append l (replicate (n - length l) 0) h (isBytes-zeros (n - length l))
-
 pointers-bytes : (cs : List Child) → IsBytes (pointersOf cs)
 unfolding pointersOf
 pointers-bytes [] = λ i. omega arith
 pointers-bytes (c ∷ cs) = isBytes-append (beBytes 4 (c .block)) (pointersOf cs) (isBytes-beBytes 4 (c .block)) (pointers-bytes cs)
+
+-- the records under each of some children are bytes
+abbrev pub Belows : List Child → Type 0
+Belows [] = Unit {0}
+Belows (c ∷ cs) = IsBytes (c .below) × Belows cs
+
+pub belows-take : (n : ℕ) (cs : List Child) → Belows cs → Belows (take n cs)
+belows-take zero cs y = tt
+belows-take (suc n) [] y = tt
+belows-take (suc n) (c ∷ cs) y = (y .0, belows-take n cs (y .1))
+
+pub belows-drop : (n : ℕ) (cs : List Child) → Belows cs → Belows (drop n cs)
+belows-drop zero cs y = y
+belows-drop (suc n) [] y = tt
+belows-drop (suc n) (c ∷ cs) y = belows-drop n cs (y .1)
+
+below-bytes : (cs : List Child) → Belows cs → IsBytes (belowOf cs)
+unfolding belowOf
+below-bytes [] y = λ i. omega arith
+below-bytes (c ∷ cs) y = isBytes-append (c .below) (belowOf cs) (y .0) (below-bytes cs (y .1))
+
+-- the leaves as the level above sees them, and the nodes of a level
+pub belows-leaves : (t : Layout) (ns counts bytes : List ℕ) → IsBytes bytes → Belows (childrenOf ns (leafParts t counts bytes))
+unfolding childrenOf leafParts
+belows-leaves t [] counts bytes y = tt
+belows-leaves t (n ∷ ns) [] bytes y = tt
+belows-leaves t (n ∷ ns) (c ∷ counts) bytes y =
+    (isBytes-take (c * t .shape .record-length) bytes y, belows-leaves t ns counts (drop (c * t .shape .record-length) bytes) (isBytes-drop (c * t .shape .record-length) bytes y))
+
+pub belows-nodes : (t : Layout) (ns counts : List ℕ) (cs : List Child) → Belows cs → Belows (childrenOf ns (nodeParts t counts cs))
+unfolding childrenOf nodeParts
+belows-nodes t [] counts cs y = tt
+belows-nodes t (n ∷ ns) [] cs y = tt
+belows-nodes t (n ∷ ns) (c ∷ counts) cs y = (below-bytes (take c cs) (belows-take c cs y), belows-nodes t ns counts (drop c cs) (belows-drop c cs y))
 
 module _ (t : Layout) where
   abbrev pub roomy : Part → Type 0
@@ -124,15 +153,15 @@ module _ (t : Layout) (s : Sized t) where
       omega (arith, length-append k (pointersOf cs), keys-room cs h, pointers-length cs, div-mul-le-self (t .shape .size - t .shape .header) (t .shape .keys-length + 4), mul-add (perNode (t .shape)) (t .shape .keys-length) 4, s .header-fits)
 
 module _ (t : Layout) (s : Sound t) where
-  keys-bytes : (cs : List Child) → IsBytes (keysOf (t .keys) cs)
+  keys-bytes : (cs : List Child) → Belows cs → IsBytes (keysOf (t .keys) cs)
   unfolding keysOf
-  keys-bytes [] = λ i. omega arith
-  keys-bytes (c ∷ cs) = isBytes-append (t .keys (c .below)) (keysOf (t .keys) cs) (s .keys-bytes (c .below)) (keys-bytes cs)
+  keys-bytes [] y = λ i. omega arith
+  keys-bytes (c ∷ cs) y = isBytes-append (t .keys (c .below)) (keysOf (t .keys) cs) (s .keys-bytes (c .below) (y .0)) (keys-bytes cs (y .1))
 
-  pub node-bytes : (cs : List Child) → IsBytes (nodePart t cs .body)
-  node-bytes cs =
+  pub node-bytes : (cs : List Child) → Belows cs → IsBytes (nodePart t cs .body)
+  node-bytes cs y =
       isBytes-append (padded (perNode (t .shape) * t .shape .keys-length) (keysOf (t .keys) cs)) (pointersOf cs)
-      (padded-bytes (perNode (t .shape) * t .shape .keys-length) (keysOf (t .keys) cs) (keys-bytes cs)) (pointers-bytes cs)
+      (padded-bytes (perNode (t .shape) * t .shape .keys-length) (keysOf (t .keys) cs) (keys-bytes cs y)) (pointers-bytes cs)
 
   pub fresh-bytes : (p : Part) → IsBytes (p .body) → IsBytes (fresh t p)
   fresh-bytes p h = padded-bytes (t .shape .size) (replicate (t .shape .header) 0 ++ p .body) (isBytes-append (replicate (t .shape .header) 0) (p .body) (isBytes-zeros (t .shape .header)) h)
@@ -171,15 +200,15 @@ module _ (t : Layout) (s : Sound t) where
       ap (λ (vs : List Visit). good vs []) (ap (λ (x : List ℕ). pointers x (firstPointer (t .shape)) l (length cs)) is ∙ pointers-read l cs p q (firstPointer (t .shape)) a e)
 
   -- a node and a leaf, before the stamp
-  pub fresh-node : (n l left : ℕ) (ns : List ℕ) (cs : List Child) → n < 2 ^ 32 → suc l ≤ 9 → left < 2 ^ 32 → AreNumbers ns → length cs ≤ perNode (t .shape)
+  pub fresh-node : (n l left : ℕ) (ns : List ℕ) (cs : List Child) → n < 2 ^ 32 → suc l ≤ 9 → left < 2 ^ 32 → AreNumbers ns → Belows cs → length cs ≤ perNode (t .shape)
       → Fresh (t .shape) n (suc l) (length cs) (record { left = left; right = next ns }) (fresh t (nodePart t cs))
-  fresh-node n l left ns cs a f b c k =
+  fresh-node n l left ns cs a f b c y k =
       record {
         number-fits = a;
         level-fits = f;
         left-fits = b;
         right-fits = next-small ns c;
-        are-bytes = fresh-bytes (nodePart t cs) (node-bytes cs);
+        are-bytes = fresh-bytes (nodePart t cs) (node-bytes cs y);
         long = fresh-length t (s .sized) (nodePart t cs) (node-roomy t (s .sized) cs k);
         most = k;
       }
@@ -210,29 +239,29 @@ module _ (t : Layout) (s : Sound t) where
     held-both [] ys h = (tt, h)
     held-both (x ∷ xs) ys h = let r = held-both xs ys (h .2) in ((h .0, h .1, r .0), r .1)
 
-    pub nodes-seen : (l left : ℕ) (ns counts : List ℕ) (cs : List Child) → left < 2 ^ 32 → AreNumbers ns → AreNumbers (numbersOf cs) → suc l ≤ 9 → Most (perNode (t .shape)) counts
+    pub nodes-seen : (l left : ℕ) (ns counts : List ℕ) (cs : List Child) → left < 2 ^ 32 → AreNumbers ns → AreNumbers (numbersOf cs) → Belows cs → suc l ≤ 9 → Most (perNode (t .shape)) counts
         → Held t image (blocksOf t (suc l) left ns (nodeParts t counts cs)) → NodesSeen t (lookIn (t .shape) image) l ns counts cs
     unfolding blocksOf nodeParts
-    nodes-seen l left [] counts cs z a b f m h = tt
-    nodes-seen l left (n ∷ ns) [] cs z a b f m h = tt
-    nodes-seen l left (n ∷ ns) (c ∷ counts) cs z a b f m h =
+    nodes-seen l left [] counts cs z a b y f m h = tt
+    nodes-seen l left (n ∷ ns) [] cs z a b y f m h = tt
+    nodes-seen l left (n ∷ ns) (c ∷ counts) cs z a b y f m h =
         let k : length (take c cs) ≤ perNode (t .shape) = omega (arith, length-take c cs, m .0) in (
-          held-shows n (suc l) (record { left = left; right = next ns }) (nodePart t (take c cs)) (fresh-node n l left ns (take c cs) (a 0) f z (λ i. a (suc i)) k) (h .0) (h .1)
+          held-shows n (suc l) (record { left = left; right = next ns }) (nodePart t (take c cs)) (fresh-node n l left ns (take c cs) (a 0) f z (λ i. a (suc i)) (belows-take c cs y) k) (h .0) (h .1)
               ∙ node-shows n (record { left = left; right = next ns }) l (take c cs) (rw (children-take c cs) (numbers-take c (numbersOf cs) b)) k,
-          nodes-seen l n ns counts (drop c cs) (a 0) (λ i. a (suc i)) (rw (children-drop c cs) (numbers-drop c (numbersOf cs) b)) f (m .1) (h .2),
+          nodes-seen l n ns counts (drop c cs) (a 0) (λ i. a (suc i)) (rw (children-drop c cs) (numbers-drop c (numbersOf cs) b)) (belows-drop c cs y) f (m .1) (h .2),
         )
 
-    pub above-seen : (l : ℕ) (ks nums : List ℕ) (cs : List Child) → AreNumbers nums → AreNumbers (numbersOf cs) → l + length ks ≤ 9 → Shaped (perNode (t .shape)) (length cs) ks → length nums ≡ sum ks → Held t image (buildAbove t (suc l) ks nums cs) → AboveSeen t (lookIn (t .shape) image) l ks nums cs
+    pub above-seen : (l : ℕ) (ks nums : List ℕ) (cs : List Child) → AreNumbers nums → AreNumbers (numbersOf cs) → Belows cs → l + length ks ≤ 9 → Shaped (perNode (t .shape)) (length cs) ks → length nums ≡ sum ks → Held t image (buildAbove t (suc l) ks nums cs) → AboveSeen t (lookIn (t .shape) image) l ks nums cs
     unfolding buildAbove sum
-    above-seen l [] nums cs a d f e z h = tt
-    above-seen l (k ∷ ks) nums cs a d f e z h =
+    above-seen l [] nums cs a d y f e z h = tt
+    above-seen l (k ∷ ks) nums cs a d y f e z h =
         let ps : List Part = nodeParts t (shares (length cs) k) cs in
         let cs′ : List Child = childrenOf (take k nums) ps in
         let i : length cs′ ≡ k = next-length t k nums cs (omega arith) in
         let j : numbersOf cs′ ≡ take k nums = next-numbers t k nums cs (omega arith) in
         let b = held-both (blocksOf t (suc l) nullAgBlock (take k nums) ps) (buildAbove t (suc (suc l)) ks (drop k nums) cs′) h in (
-          nodes-seen l nullAgBlock (take k nums) (shares (length cs) k) cs (omega arith) (numbers-take k nums a) d (omega arith) (shares-most (length cs) k 0 k (perNode (t .shape)) (e .0) (e .1)) (b .0),
-          above-seen (suc l) ks (drop k nums) cs′ (numbers-drop k nums a) (rw j (numbers-take k nums a)) (omega arith) (subst (λ (x : ℕ). Shaped (perNode (t .shape)) x ks) (sym i) (e .2)) (omega (arith, length-drop k nums)) (b .1),
+          nodes-seen l nullAgBlock (take k nums) (shares (length cs) k) cs (omega arith) (numbers-take k nums a) d y (omega arith) (shares-most (length cs) k 0 k (perNode (t .shape)) (e .0) (e .1)) (b .0),
+          above-seen (suc l) ks (drop k nums) cs′ (numbers-drop k nums a) (rw j (numbers-take k nums a)) (belows-nodes t (take k nums) (shares (length cs) k) cs y) (omega arith) (subst (λ (x : ℕ). Shaped (perNode (t .shape)) x ks) (sym i) (e .2)) (omega (arith, length-drop k nums)) (b .1),
         )
 
     pub leaves-seen : (left : ℕ) (ns counts bytes : List ℕ) → left < 2 ^ 32 → AreNumbers ns → IsBytes bytes → Most (perLeaf (t .shape)) counts

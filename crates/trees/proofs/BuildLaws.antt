@@ -14,6 +14,7 @@ use Rattle.codec.specs.Question.{none, Outcome, done, refused, ask, answer}
 use Rattle.codec.specs.Accepted.{whole}
 use Rattle.codec.specs.Rmaps as rmap
 use Rattle.codec.specs.Refcounts as refcount
+use Rattle.free.specs.Free as free
 use Rattle.codec.specs.ListRefusal.{listNumber, listOutcome}
 use Rattle.codec.specs.declared.check.ListChecked.{ListChecked}
 use Rattle.codec.specs.declared.check.ListRefusal.{ListRefusal}
@@ -21,10 +22,10 @@ use Rattle.codec.specs.declared.check.ListChecked.the-variants as checked
 use Rattle.codec.proofs.Meaning.{done-means}
 use Rattle.blocks.specs.declared.geometry.Geometry.{Geometry}
 use Rattle.blocks.specs.declared.kind.TreeKind.{TreeKind}
-use Rattle.blocks.specs.declared.kind.TreeKind.the-variants.{Rmap, Refcount}
+use Rattle.blocks.specs.declared.kind.TreeKind.the-variants.{Rmap, Refcount, ByBlock, BySize}
 use Rattle.blocks.specs.Geometry.{geometryOk}
 use Rattle.blocks.specs.Tree.{hasTree, recordLen}
-use Rattle.blocks.proofs.Laws.{blocksize-within}
+use Rattle.blocks.proofs.Laws.{overlapping-is, blocksize-within}
 use Rattle.trees.specs.Plan.{levelsOf, sum}
 use Rattle.walks.specs.Walk.{perLeaf, perNode}
 use Rattle.walks.specs.Shapes.{shapeOf}
@@ -130,19 +131,18 @@ abbrev listAnswer : {A : Type 0} → TreeKind → List ℕ → Outcome A → Out
 listAnswer kind list o = answer (ask 19 (whole (recordLen kind) list) ∷ ask (orderNumber kind) (ordered kind list) ∷ []) o
 
 list-is : (kind : TreeKind) (list : List ℕ) → checkList kind list ≡ listAnswer kind list (done (length list / recordLen kind))
-unfolding rmap.checkOrder refcount.checkOrder
+unfolding rmap.checkOrder refcount.checkOrder free.checkOrder
 list-is Rmap list = refl
 list-is Refcount list = refl
+list-is ByBlock list = refl
+list-is BySize list = refl
 
-pub check-rmap : (kind : TreeKind) (list : List ℕ) (o : Outcome ℕ) → kind ≡ Rmap → o ≡ rmap.checkOrder list → o ≡ checkList kind list
-check-rmap kind list o e h = h ∙ ap (λ (k : TreeKind). checkList k list) (sym e)
-
-pub check-refcount : (kind : TreeKind) (list : List ℕ) (o : Outcome ℕ) → kind ≡ Refcount → o ≡ refcount.checkOrder list → o ≡ checkList kind list
-check-refcount kind list o e h = h ∙ ap (λ (k : TreeKind). checkList k list) (sym e)
+-- the check of the kind that it is
+pub check-of : (kind k : TreeKind) (list : List ℕ) (o : Outcome ℕ) → kind ≡ k → o ≡ checkList k list → o ≡ checkList kind list
+check-of kind k list o e h = h ∙ ap (λ (x : TreeKind). checkList x list) (sym e)
 
 keyed : (kind : TreeKind) (list : List ℕ) → ordered kind list ≡ true → Keyed kind list
-keyed Rmap list e = accepted-good list e
-keyed Refcount list e = tt
+keyed kind list e t = accepted-good list (subst (λ (k : TreeKind). ordered k list ≡ true) (overlapping-is kind t) e)
 
 -- a refusal stays the same whatever would come after it
 refused-same : {A B : Type 0} (a b : Bool) (k : ℕ) (x : A) (o : Outcome B) (n : ℕ)

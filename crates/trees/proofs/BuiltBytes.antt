@@ -19,7 +19,7 @@ use Rattle.trees.specs.Plan.{shares}
 use Rattle.trees.specs.BlockLayout.{Links, Layout, Sound}
 use Rattle.trees.specs.Build.{Child, Part, Block, leafParts, nodeParts, blocksOf, childrenOf, buildAbove, buildPlan, planOf, build, output, stored}
 use Rattle.trees.specs.BuildCall.{layoutOf, builtBytes}
-use Rattle.trees.proofs.BlockBytes.{fresh, node-bytes, fresh-bytes}
+use Rattle.trees.proofs.BlockBytes.{Belows, belows-take, belows-drop, belows-leaves, belows-nodes, fresh, node-bytes, fresh-bytes}
 use Rattle.trees.proofs.TreeKinds.{sound}
 use Rattle.trees.proofs.Writing.{output-append}
 
@@ -45,10 +45,10 @@ module _ (t : Layout) (s : Sound t)
       isBytes-append (t .stamp n level (p .count) x (fresh t p)) (output (blocksOf t level n ns ps))
       (stamps n level (p .count) x (fresh t p) (fresh-bytes t s p (h .0)) (fresh-long p)) (blocks-bytes level n ns ps (h .1))
 
-  nodes-are : (counts : List ℕ) (cs : List Child) → Bodies (nodeParts t counts cs)
+  nodes-are : (counts : List ℕ) (cs : List Child) → Belows cs → Bodies (nodeParts t counts cs)
   unfolding nodeParts
-  nodes-are [] cs = tt
-  nodes-are (c ∷ counts) cs = (node-bytes t s (take c cs), nodes-are counts (drop c cs))
+  nodes-are [] cs y = tt
+  nodes-are (c ∷ counts) cs y = (node-bytes t s (take c cs) (belows-take c cs y), nodes-are counts (drop c cs) (belows-drop c cs y))
 
   leaves-are : (counts bytes : List ℕ) → IsBytes bytes → Bodies (leafParts t counts bytes)
   unfolding leafParts
@@ -60,13 +60,14 @@ module _ (t : Layout) (s : Sound t)
   both : (xs ys : List Block) → IsBytes (output xs) → IsBytes (output ys) → IsBytes (output (xs ++ ys))
   both xs ys h k = subst IsBytes (sym (output-append xs ys)) (isBytes-append (output xs) (output ys) h k)
 
-  above-bytes : (level : ℕ) (ks numbers : List ℕ) (cs : List Child) → IsBytes (output (buildAbove t level ks numbers cs))
+  above-bytes : (level : ℕ) (ks numbers : List ℕ) (cs : List Child) → Belows cs → IsBytes (output (buildAbove t level ks numbers cs))
   unfolding buildAbove output
-  above-bytes level [] numbers cs = λ i. omega arith
-  above-bytes level (k ∷ ks) numbers cs =
+  above-bytes level [] numbers cs y = λ i. omega arith
+  above-bytes level (k ∷ ks) numbers cs y =
       let ps : List Part = nodeParts t (shares (length cs) k) cs in
       both (blocksOf t level nullAgBlock (take k numbers) ps) (buildAbove t (suc level) ks (drop k numbers) (childrenOf (take k numbers) ps))
-      (blocks-bytes level nullAgBlock (take k numbers) ps (nodes-are (shares (length cs) k) cs)) (above-bytes (suc level) ks (drop k numbers) (childrenOf (take k numbers) ps))
+      (blocks-bytes level nullAgBlock (take k numbers) ps (nodes-are (shares (length cs) k) cs y))
+      (above-bytes (suc level) ks (drop k numbers) (childrenOf (take k numbers) ps) (belows-nodes t (take k numbers) (shares (length cs) k) cs y))
 
   plan-bytes : (plan numbers bytes : List ℕ) → IsBytes bytes → IsBytes (output (buildPlan t plan numbers bytes))
   unfolding buildPlan output
@@ -75,7 +76,7 @@ module _ (t : Layout) (s : Sound t)
       let ps : List Part = leafParts t (shares (length bytes / t .shape .record-length) k) bytes in
       both (blocksOf t 0 nullAgBlock (take k numbers) ps) (buildAbove t 1 ks (drop k numbers) (childrenOf (take k numbers) ps))
       (blocks-bytes 0 nullAgBlock (take k numbers) ps (leaves-are (shares (length bytes / t .shape .record-length) k) bytes h))
-      (above-bytes 1 ks (drop k numbers) (childrenOf (take k numbers) ps))
+      (above-bytes 1 ks (drop k numbers) (childrenOf (take k numbers) ps) (belows-leaves t (take k numbers) (shares (length bytes / t .shape .record-length) k) bytes h))
 
   build-bytes : (numbers bytes : List ℕ) → IsBytes bytes → IsBytes (output (build t numbers bytes))
   unfolding build

@@ -25,7 +25,7 @@ use Rattle.trees.specs.BlockLayout.{Sound}
 use Rattle.trees.specs.Build.{planOf, build, rootOf, AreNumbers, Holds, Places, stored}
 use Rattle.walks.specs.Shapes.{shapeOf}
 use Rattle.trees.specs.BuildCall.{layoutOf, buildQuestions, builtBytes, buildOutcome}
-use Rattle.trees.specs.RoundTrip.{levelsFor, LongEnough, walkBack, Returned}
+use Rattle.trees.specs.RoundTrip.{levelsFor, LongEnough, walkBack, Returned, EveryTree}
 use Rattle.trees.proofs.TreeKinds.{sound}
 use Rattle.trees.proofs.Stored.{Made, output-length, build-made, held-blocks, stored-held}
 use Rattle.trees.proofs.WalkedBack.{Back, built-returned}
@@ -131,3 +131,7 @@ module _
         → LongEnough g kind list numbers m → Returned g kind list numbers (stored (g .blocksize) image numbers bytes) m
     stored-returned image m places within long =
         round-trip (stored (g .blocksize) image numbers bytes) m (stored-held (g .blocksize) image numbers bytes built-length places .0) within long
+
+-- so every tree that build built comes back
+pub every-tree : EveryTree
+every-tree = stored-returned

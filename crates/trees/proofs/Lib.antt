@@ -9,6 +9,7 @@ pub mod LinkedBack
 pub mod Stored
 pub mod Spans
 pub mod KeyLaws
+pub mod Padding
 pub mod TreeKinds
 pub mod BuiltReturned
 pub mod BuiltBytes
@@ -21,3 +22,4 @@ pub mod TreeWriting
 pub mod BuildLaws
 pub mod HighestKeys
 pub mod SmallTree
+pub mod SmallFree

@@ -22,7 +22,7 @@ use Rattle.trees.specs.Build.{Child, Part, leafPart, nodePart, leafParts
 use Rattle.trees.proofs.Sharing.{Shaped, Most, shares-most, shares-length, leaves-some, leaves-room, above-shaped}
 use Rattle.trees.proofs.LevelWalk.{Tops, numbersOf, numbers-length, numbers-of-children, next-length}
 use Rattle.trees.proofs.LeafWalk.{leaf-parts-length}
-use Rattle.trees.proofs.BlockBytes.{Held, held-both, fresh, fresh-node, fresh-leaf, numbers-take, numbers-drop}
+use Rattle.trees.proofs.BlockBytes.{Held, held-both, Belows, belows-take, belows-drop, belows-leaves, belows-nodes, fresh, fresh-node, fresh-leaf, numbers-take, numbers-drop}
 
 all-levels : (left right : ℕ → ℕ) (n : ℕ) (vs : List Visit)
     → ((j : ℕ) → j < n → linked left right nullAgBlock (atLevel j vs) ≡ true) → levelsLinked left right n vs ≡ true
@@ -46,21 +46,21 @@ module _ (t : Layout) (s : Sound t) (image : List ℕ) where
   unfolding linked
   one before n ns l r h = rw (eq-eqb (left n) before l, eq-eqb (right n) (next ns) r) h
 
-  nodes-linked : (l before : ℕ) (ns counts : List ℕ) (cs : List Child) → before < 2 ^ 32 → AreNumbers ns → suc l ≤ 9
+  nodes-linked : (l before : ℕ) (ns counts : List ℕ) (cs : List Child) → before < 2 ^ 32 → AreNumbers ns → Belows cs → suc l ≤ 9
       → length ns ≡ length counts → Most (perNode (t .shape)) counts
       → Held t image (blocksOf t (suc l) before ns (nodeParts t counts cs)) → linked left right before ns ≡ true
   unfolding blocksOf nodeParts linked
-  nodes-linked l before [] counts cs z a f e m h = refl
-  nodes-linked l before (n ∷ ns) [] cs z a f e m h = absurd (omega arith)
-  nodes-linked l before (n ∷ ns) (c ∷ counts) cs z a f e m h =
+  nodes-linked l before [] counts cs z a y f e m h = refl
+  nodes-linked l before (n ∷ ns) [] cs z a y f e m h = absurd (omega arith)
+  nodes-linked l before (n ∷ ns) (c ∷ counts) cs z a y f e m h =
       let k : length (take c cs) ≤ perNode (t .shape) = omega (arith, length-take c cs, m .0) in
       let x : Links = record { left = before; right = next ns } in
       let p : Part = nodePart t (take c cs) in
-      let r : Fresh (t .shape) n (suc l) (p .count) x (fresh t p) = fresh-node t s n l before ns (take c cs) (a 0) f z (λ i. a (suc i)) k in
+      let r : Fresh (t .shape) n (suc l) (p .count) x (fresh t p) = fresh-node t s n l before ns (take c cs) (a 0) f z (λ i. a (suc i)) (belows-take c cs y) k in
       one before n ns
       (ap leftsibIn (h .1) ∙ s .stamp-left n (suc l) (p .count) x (fresh t p) r)
       (ap rightsibIn (h .1) ∙ s .stamp-right n (suc l) (p .count) x (fresh t p) r)
-      (nodes-linked l n ns counts (drop c cs) (a 0) (λ i. a (suc i)) f (omega arith) (m .1) (h .2))
+      (nodes-linked l n ns counts (drop c cs) (a 0) (λ i. a (suc i)) (belows-drop c cs y) f (omega arith) (m .1) (h .2))
 
   leaves-linked : (before : ℕ) (ns counts bytes : List ℕ) → before < 2 ^ 32 → AreNumbers ns → IsBytes bytes
       → length ns ≡ length counts → Most (perLeaf (t .shape)) counts
@@ -80,25 +80,25 @@ module _ (t : Layout) (s : Sound t) (image : List ℕ) where
       (ap rightsibIn (h .1) ∙ s .stamp-right n 0 (p .count) x (fresh t p) r)
       (leaves-linked n ns counts (drop (c * w) bytes) (a 0) (λ i. a (suc i)) (isBytes-drop (c * w) bytes y) (omega arith) (m .1) (h .2))
 
-  above-linked : (l : ℕ) (ks nums : List ℕ) (cs : List Child) (vs : List Visit) → AreNumbers nums → l + length ks ≤ 9
+  above-linked : (l : ℕ) (ks nums : List ℕ) (cs : List Child) (vs : List Visit) → AreNumbers nums → Belows cs → l + length ks ≤ 9
       → Shaped (perNode (t .shape)) (length cs) ks → length nums ≡ sum ks → Held t image (buildAbove t (suc l) ks nums cs) → Tops (suc l) ks nums vs
       → (j : ℕ) → l < j → j < suc (l + length ks) → linked left right nullAgBlock (atLevel j vs) ≡ true
   unfolding buildAbove sum
-  above-linked l [] nums cs vs a f e z h o j low high = absurd (omega arith)
-  above-linked l (k ∷ ks) nums cs vs a f e z h o j low high =
+  above-linked l [] nums cs vs a y f e z h o j low high = absurd (omega arith)
+  above-linked l (k ∷ ks) nums cs vs a y f e z h o j low high =
       let ps : List Part = nodeParts t (shares (length cs) k) cs in
       let cs′ : List Child = childrenOf (take k nums) ps in
       let i : length cs′ ≡ k = next-length t k nums cs (omega arith) in
       let b = held-both t s image (blocksOf t (suc l) nullAgBlock (take k nums) ps) (buildAbove t (suc (suc l)) ks (drop k nums) cs′) h in
       elim (decLt (suc l) j) [
         | yes q ↦
-            above-linked (suc l) ks (drop k nums) cs′ vs (numbers-drop k nums a) (omega arith)
+            above-linked (suc l) ks (drop k nums) cs′ vs (numbers-drop k nums a) (belows-nodes t (take k nums) (shares (length cs) k) cs y) (omega arith)
             (subst (λ (x : ℕ). Shaped (perNode (t .shape)) x ks) (sym i) (e .2)) (omega (arith, length-drop k nums)) (b .1) (o .1) j q (omega arith)
         | no q ↦ (
             let same : suc l ≡ j = omega arith in
             subst (λ (x : ℕ). linked left right nullAgBlock (atLevel x vs) ≡ true) same
             (ap (linked left right nullAgBlock) (o .0)
-            ∙ nodes-linked l nullAgBlock (take k nums) (shares (length cs) k) cs (omega arith) (numbers-take k nums a) (omega arith)
+            ∙ nodes-linked l nullAgBlock (take k nums) (shares (length cs) k) cs (omega arith) (numbers-take k nums a) y (omega arith)
             (length-take-le k nums (omega arith) ∙ sym (shares-length (length cs) k 0 k))
             (shares-most (length cs) k 0 k (perNode (t .shape)) (e .0) (e .1)) (b .0)))
       ]
@@ -125,7 +125,7 @@ module _ (t : Layout) (s : Sound t) (image : List ℕ) where
       (kn ∙ sym (shares-length n k 0 k)) (shares-most n k 0 k (perLeaf (t .shape)) some room) (b .0) in
       let high : (m : ℕ) → 0 < m → m < suc (length ks) → linked left right nullAgBlock (atLevel m vs) ≡ true =
       λ m p r.
-      above-linked 0 ks (drop k numbers) cs vs (numbers-drop k numbers small) (omega arith)
+      above-linked 0 ks (drop k numbers) cs vs (numbers-drop k numbers small) (belows-leaves t (take k numbers) (shares n k) bytes bytes-are) (omega arith)
       (subst (λ (x : ℕ). Shaped (perNode (t .shape)) x ks) (sym i) shaped) (omega (arith, length-drop k numbers)) (b .1) (o .1) m p (omega arith) in
       all-levels left right (suc (length ks)) vs
       (first-and-rest (λ (m : ℕ). linked left right nullAgBlock (atLevel m vs) ≡ true) (suc (length ks)) low high)

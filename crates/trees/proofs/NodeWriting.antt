@@ -1,29 +1,32 @@
 -- The keys and the pointers of a node, written one after another.
 -- Assumes nothing.
 use Prim.Native.Nat.{ℕ, zero, suc, _+_, _-_, _*_, _/_, _≤_, _<_}
-use native.Mathlib.Nat.{zero-mul, add-zero, mul-le-mul-right}
+use native.Mathlib.Nat.{zero-mul, add-zero, mul-le-mul-right, div-mul-le-self, add-sub-cancel-left}
 use native.Mathlib.Numerals.{add-one}
 use native.Mathlib.Omega.{arith}
 use mathlib.Core.Path.{_≡_, refl, sym, ap, ap₂, _∙_, subst, subst₂}
+use mathlib.Core.Bool.{true, false}
 use mathlib.Core.List.{List, [], _∷_, _++_, append-assoc, append-nil}
-use lib.ListN.{length, take, drop, getD, length-append}
+use lib.ListN.{length, take, drop, getD, length-append, length-drop}
 use lib.Seq.{take-take, take-suc, length-take-le, take-length}
-use Rattle.codec.specs.Bytes.{bytesAt, withBytes, beOf, beBytes}
-use Rattle.codec.specs.Records.{fieldsOf, rmaps, refcounts}
+use Rattle.codec.specs.Bytes.{bytesAt, withBytes, beBytes}
+use Rattle.codec.specs.Records.{rmaps}
 use Rattle.codec.proofs.Numbers.{length-beBytes}
 use Rattle.codec.proofs.Parts.{withBytes-add}
 use Rattle.codec.proofs.Stores.{withBytes-none}
 use Rattle.blocks.specs.declared.kind.TreeKind.{TreeKind}
-use Rattle.blocks.specs.declared.kind.TreeKind.the-variants.{Rmap, Refcount}
-use Rattle.blocks.specs.Tree.{recordLen, keysLen}
+use Rattle.blocks.specs.declared.kind.TreeKind.the-variants.{Rmap}
+use Rattle.blocks.specs.Tree.{overlapping, recordLen, keysLen}
+use Rattle.blocks.proofs.Laws.{overlapping-is, key-within}
 use Rattle.trees.specs.Plan.{firstOf}
-use Rattle.trees.specs.Build.{Child, keysOf, pointersOf}
-use Rattle.trees.specs.Keys.{rmapKeys, refcountKeys, firstStart, recordsBetween}
+use Rattle.trees.specs.Build.{Child, padded, keysOf, pointersOf}
+use Rattle.trees.specs.Keys.{rmapKeys, firstKey, recordsBetween, AllGood}
 use Rattle.trees.specs.BuildCall.{keysUnder}
 use Rattle.trees.specs.inner.BuildNeeds.{Under, Planned, Children, pointerBytes, spanChildren, levelChildren}
 use Rattle.trees.proofs.TreeKinds.{keys-long}
 use Rattle.trees.proofs.Going.{first-ends}
-use Rattle.trees.proofs.KeyLaws.{records-part, between-next}
+use Rattle.trees.proofs.KeyLaws.{records-part}
+use Rattle.trees.proofs.Padding.{padded-full}
 
 -- ---- pointers
 
@@ -61,39 +64,58 @@ pub rmap-keys-are : (list : List ℕ) (from to : ℕ) → from < to → to ≤ l
 unfolding keysUnder
 rmap-keys-are list from to lt le = ap rmapKeys (sym (records-part rmaps list from to (omega arith) (omega arith) le))
 
-start-read : (l : List ℕ) (a : ℕ) → refcounts .decode (bytesAt l a 12) .startblock ≡ beOf (bytesAt l a 4)
-unfolding fieldsOf bytesAt
-start-read l a = ap beOf (take-take 4 12 (drop a l) (omega arith))
+-- the first k bytes of some records of w bytes each are those of the first of them
+first-key-is : (list : List ℕ) (from to w k : ℕ) → from < to → to * w ≤ length list → k ≤ w
+    → bytesAt list (from * w) k ≡ firstKey k (bytesAt list (from * w) (to * w - from * w))
+unfolding firstKey bytesAt
+first-key-is list from to w k lt inside le =
+    let one : suc from * w ≤ to * w = mul-le-mul-right w lt in
+    let l : List ℕ = drop (from * w) list in
+    let long : length (take k l) ≡ k = length-take-le k l (omega (arith, length-drop (from * w) list)) in
+    sym
+    (ap (padded k) (take-take k (to * w - from * w) l (omega arith))
+    ∙ padded-full k (take k l) (omega arith))
 
-pub refcount-keys-are : (list : List ℕ) (from to x : ℕ) → from < to → to ≤ length list / 12 → x ≡ beOf (bytesAt list (from * 12) 4)
-    → beBytes 4 x ≡ keysUnder Refcount (bytesAt list (from * 12) (to * 12 - from * 12))
-unfolding keysUnder refcountKeys
-refcount-keys-are list from to x lt le e =
-    ap (beBytes 4)
-    (e ∙ sym (start-read list (from * 12))
-    ∙ sym (ap firstStart (records-part refcounts list from to (omega arith) (omega arith) le ∙ between-next refcounts list from to lt le)))
-
--- the same by the kind of the tree
-module _ (kind : TreeKind) (list : List ℕ) (from to at n : ℕ) where
-  pub under-rmap : kind ≡ Rmap → Under kind list from to → at + keysLen kind ≤ n → Under Rmap list from to × (at + 40 ≤ n)
-  under-rmap e u h = (subst (λ (k : TreeKind). Under k list from to) e u, subst (λ (k : TreeKind). at + keysLen k ≤ n) e h)
-
-  pub under-refcount : kind ≡ Refcount → Under kind list from to → at + keysLen kind ≤ n → Under Refcount list from to × (at + 4 ≤ n)
-  under-refcount e u h = (subst (λ (k : TreeKind). Under k list from to) e u, subst (λ (k : TreeKind). at + keysLen k ≤ n) e h)
-
+-- the same by the kind of the tree: of a reverse map, and of any other
 abbrev keysAt : TreeKind → List ℕ → List ℕ → ℕ → ℕ → ℕ → List ℕ
 keysAt k list b from to at = withBytes b at (keysUnder k (bytesAt list (from * recordLen k) (to * recordLen k - from * recordLen k)))
 
-module _ (kind : TreeKind) (list b x : List ℕ) (from to at : ℕ) where
-  pub keys-rmap : kind ≡ Rmap → Under kind list from to → x ≡ withBytes b at (rmapKeys (recordsBetween rmaps list from to)) → x ≡ keysAt kind list b from to at
-  keys-rmap e u h =
-      let v : Under Rmap list from to = subst (λ (k : TreeKind). Under k list from to) e u in
-      subst (λ (k : TreeKind). x ≡ keysAt k list b from to at) (sym e) (h ∙ ap (withBytes b at) (rmap-keys-are list from to (v .some) (v .inside)))
+module _ (kind : TreeKind) (list b : List ℕ) (from to at : ℕ) (u : Under kind list from to) where
+  module _ (e : overlapping kind ≡ true) where
+    under : Under Rmap list from to
+    under = subst (λ (k : TreeKind). Under k list from to) (overlapping-is kind e) u
 
-  pub keys-refcount : (y : ℕ) → kind ≡ Refcount → Under kind list from to → y ≡ beOf (bytesAt list (from * 12) 4) → x ≡ withBytes b at (beBytes 4 y) → x ≡ keysAt kind list b from to at
-  keys-refcount y e u r h =
-      let v : Under Refcount list from to = subst (λ (k : TreeKind). Under k list from to) e u in
-      subst (λ (k : TreeKind). x ≡ keysAt k list b from to at) (sym e) (h ∙ ap (withBytes b at) (refcount-keys-are list from to y (v .some) (v .inside) r))
+    pub rmap-given : at + keysLen kind ≤ length b → ((from < to) × (to ≤ length list / 24) × AllGood list) × (at + 40 ≤ length b)
+    rmap-given h = ((under .some, under .inside, under .keyed refl), subst (λ (k : TreeKind). at + keysLen k ≤ length b) (overlapping-is kind e) h)
+
+    pub keys-rmap : (x : List ℕ) → x ≡ withBytes b at (rmapKeys (recordsBetween rmaps list from to)) → x ≡ keysAt kind list b from to at
+    keys-rmap x h =
+        subst (λ (k : TreeKind). x ≡ keysAt k list b from to at) (sym (overlapping-is kind e))
+        (h ∙ ap (withBytes b at) (rmap-keys-are list from to (under .some) (under .inside)))
+
+  -- where a record and its key are as long as they are told to be
+  pub records-in : (w : ℕ) → w ≡ recordLen kind → from * w + w ≤ length list
+  records-in w we =
+      let one : suc from * recordLen kind ≤ to * recordLen kind = mul-le-mul-right (recordLen kind) (u .some) in
+      let all : to * recordLen kind ≤ length list / recordLen kind * recordLen kind = mul-le-mul-right (recordLen kind) (u .inside) in
+      let is : from * w + w ≡ from * recordLen kind + recordLen kind = ap (λ (x : ℕ). from * x + x) we in
+      omega (arith, div-mul-le-self (length list) (recordLen kind))
+
+  module _ (e : overlapping kind ≡ false) (w k : ℕ) (we : w ≡ recordLen kind) (ke : k ≡ keysLen kind) where
+    pub key-in : from * w + k ≤ length list
+    key-in = omega (arith, key-within kind e, records-in w we)
+
+    pub key-first : (x : List ℕ) → x ≡ withBytes b at (take (from * w + k - from * w) (drop (from * w) list)) → x ≡ keysAt kind list b from to at
+    unfolding keysUnder bytesAt
+    key-first x h =
+        let all : to * recordLen kind ≤ length list / recordLen kind * recordLen kind = mul-le-mul-right (recordLen kind) (u .inside) in
+        let cut : take (from * w + k - from * w) (drop (from * w) list) ≡ take (keysLen kind) (drop (from * recordLen kind) list) =
+        ap₂ (λ (a c : ℕ). take a (drop c list)) (add-sub-cancel-left (from * w) k ∙ ke) (ap (λ (a : ℕ). from * a) we) in
+        h
+        ∙ ap (withBytes b at)
+        (cut
+        ∙ first-key-is list from to (recordLen kind) (keysLen kind) (u .some) (omega (arith, div-mul-le-self (length list) (recordLen kind))) (key-within kind e)
+        ∙ sym (rw e refl))
 
 -- ---- children after one another
 

@@ -1,52 +1,71 @@
--- Both kinds of tree are layouts that build and walk can go by.
+-- Every kind of tree, on each version that has it, is a layout that build and walk can go by.
 -- Assumes nothing.
 use Prim.Native.Nat.{ℕ, zero, suc, _+_, _-_, _*_, _^_, _≤_, _<_}
 use native.Mathlib.Nat.{le-div-iff-mul-le, div-mul-le-self, mul-le-mul-left}
 use native.Mathlib.Omega.{arith}
 use mathlib.Core.Path.{_≡_, refl, sym, ap, ap₂, _∙_, subst}
-use mathlib.Core.Bool.{true}
+use mathlib.Core.Bool.{Bool, true, false, cond}
 use mathlib.Core.List.{List, [], _∷_}
-use lib.ListN.{length, length-append}
+use lib.ListN.{length, take, length-append, length-take}
 use borrow.Author.Tests.{ne-eqb}
 use Rattle.codec.specs.Bytes.{IsBytes}
 use Rattle.codec.specs.Question.{done}
-use Rattle.codec.specs.Records.{recordsOf, rmaps, refcounts}
-use Rattle.codec.proofs.Numbers.{length-beBytes}
-use Rattle.codec.proofs.FieldLists.{isBytes-append, isBytes-beBytes, isBytes-fieldBytes}
+use Rattle.codec.specs.Records.{recordsOf, rmaps}
+use Rattle.codec.specs.declared.rmap.Rmap.{Rmap}
+use Rattle.codec.proofs.FieldLists.{isBytes-append, isBytes-take, isBytes-fieldBytes}
 use Rattle.blocks.specs.declared.geometry.Geometry.{Geometry}
 use Rattle.blocks.specs.declared.kind.TreeKind.{TreeKind}
-use Rattle.blocks.specs.declared.kind.TreeKind.the-variants.{Rmap, Refcount}
 use Rattle.blocks.specs.Geometry.{geometryOk, Fits}
-use Rattle.blocks.specs.Tree.{headerLen, hasTree, recordLen, keysLen, placeLen, capacity as capacityOf}
+use Rattle.blocks.specs.Tree.{headerLen, hasTree, overlapping, recordLen, keysLen, placeLen, capacity as capacityOf}
 use Rattle.blocks.specs.Check.{headerSays, checkBlock}
-use Rattle.blocks.proofs.Laws.{bounded, blocksize-within, header-most, place-least}
+use Rattle.blocks.proofs.Laws.{bounded, overlapping-is, blocksize-within, header-most, place-least}
 use Rattle.blocks.proofs.Accepted.{Accepted, accepted}
 use Rattle.blocks.proofs.Stamped.{stamped-length, stamped-body, stamped-passes}
 use Rattle.walks.specs.Shapes.{numrecsOf}
 use Rattle.trees.specs.BlockLayout.{Links, Layout, capacity, Sized, Fresh, Sound}
-use Rattle.trees.specs.Keys.{keyBytes, keyWidths, lowest, highest, rmapKeys, refcountKeys, firstStart}
+use Rattle.trees.specs.Keys.{keyBytes, keyWidths, lowest, highest, rmapKeys, firstKey}
 use Rattle.trees.specs.BuildCall.{keysUnder, layoutOf}
 use Rattle.trees.proofs.KeyLaws.{key-length}
+use Rattle.trees.proofs.Padding.{padded-length, padded-bytes}
 
--- ---- both kinds are sound
+-- ---- every kind is sound
 
-pub keys-long : (kind : TreeKind) (b : List ℕ) → length (keysUnder kind b) ≡ keysLen kind
-unfolding keysUnder rmapKeys refcountKeys
-keys-long Rmap b =
-    let low : List ℕ = keyBytes (lowest (recordsOf rmaps b)) in
-    let high : List ℕ = keyBytes (highest (recordsOf rmaps b)) in
-    length-append low high ∙ ap₂ _+_ (key-length (lowest (recordsOf rmaps b))) (key-length (highest (recordsOf rmaps b)))
-keys-long Refcount b = length-beBytes 4 (firstStart (recordsOf refcounts b))
+rmap-long : (rs : List Rmap) → length (rmapKeys rs) ≡ 40
+unfolding rmapKeys
+rmap-long rs = length-append (keyBytes (lowest rs)) (keyBytes (highest rs)) ∙ ap₂ _+_ (key-length (lowest rs)) (key-length (highest rs))
 
-keys-bytes : (kind : TreeKind) (b : List ℕ) → IsBytes (keysUnder kind b)
-unfolding keysUnder rmapKeys refcountKeys
-keys-bytes Rmap b =
-    let low = lowest (recordsOf rmaps b) in
-    let high = highest (recordsOf rmaps b) in
+rmap-bytes : (rs : List Rmap) → IsBytes (rmapKeys rs)
+unfolding rmapKeys
+rmap-bytes rs =
+    let low = lowest rs in
+    let high = highest rs in
     isBytes-append (keyBytes low) (keyBytes high)
     (isBytes-fieldBytes keyWidths (low .start ∷ low .owner ∷ low .offset ∷ []))
     (isBytes-fieldBytes keyWidths (high .start ∷ high .owner ∷ high .offset ∷ []))
-keys-bytes Refcount b = isBytes-beBytes 4 (firstStart (recordsOf refcounts b))
+
+first-long : (w : ℕ) (b : List ℕ) → length (firstKey w b) ≡ w
+unfolding firstKey
+first-long w b = padded-length w (take w b) (omega (arith, length-take w b))
+
+first-bytes : (w : ℕ) (b : List ℕ) → IsBytes b → IsBytes (firstKey w b)
+unfolding firstKey
+first-bytes w b h = padded-bytes w (take w b) (isBytes-take w b h)
+
+pub keys-long : (kind : TreeKind) (b : List ℕ) → length (keysUnder kind b) ≡ keysLen kind
+unfolding keysUnder
+keys-long kind b = go (overlapping kind) refl
+  where
+    go : (t : Bool) → overlapping kind ≡ t → length (cond t (rmapKeys (recordsOf rmaps b)) (firstKey (keysLen kind) b)) ≡ keysLen kind
+    go true e = rmap-long (recordsOf rmaps b) ∙ ap keysLen (sym (overlapping-is kind e))
+    go false e = first-long (keysLen kind) b
+
+keys-bytes : (kind : TreeKind) (b : List ℕ) → IsBytes b → IsBytes (keysUnder kind b)
+unfolding keysUnder
+keys-bytes kind b h = go (overlapping kind)
+  where
+    go : (t : Bool) → IsBytes (cond t (rmapKeys (recordsOf rmaps b)) (firstKey (keysLen kind) b))
+    go true = rmap-bytes (recordsOf rmaps b)
+    go false = first-bytes (keysLen kind) b h
 
 pub record-some : (kind : TreeKind) → 0 < recordLen kind
 record-some kind = omega (arith, bounded kind .record-least)

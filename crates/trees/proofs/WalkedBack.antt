@@ -18,7 +18,7 @@ use Rattle.walks.proofs.Steps.{Step, meet, visitsIn, recordsIn, meet-records, m
 use Rattle.trees.proofs.Sharing.{Shaped, shares-most, shares-sum, shares-length, leaves-some, leaves-room, above-shaped}
 use Rattle.trees.proofs.LevelWalk.{Tops, numbersOf, numbers-length, numbers-of-children}
 use Rattle.trees.proofs.LeafWalk.{Tree, tree, leaf-parts-length}
-use Rattle.trees.proofs.BlockBytes.{Held, held-both, above-seen, leaves-seen, numbers-take, numbers-drop}
+use Rattle.trees.proofs.BlockBytes.{Held, held-both, belows-leaves, above-seen, leaves-seen, numbers-take, numbers-drop}
 
 -- a trace that returns what was built: it ends with nothing due; the records come back in order, the blocks by level in
 -- the order given, one visit to each; and lists long enough for both take them
@@ -78,7 +78,7 @@ module _ (t : Layout) (s : Sound t) (image : List ℕ) where
       let v : Tree t (lookIn (t .shape) image) (k ∷ ks) numbers bytes =
       tree t (lookIn (t .shape) image) (perNode (t .shape)) k ks numbers bytes n some shaped long are
       (leaves-seen t s image nullAgBlock (take k numbers) (shares n k) bytes (omega arith) (numbers-take k numbers small) bytes-are (shares-most n k 0 k (perLeaf (t .shape)) some room) sw (b .0))
-      (above-seen t s image 0 ks (drop k numbers) cs (numbers-drop k numbers small) (rw j (numbers-take k numbers small)) (omega arith) (subst (λ (x : ℕ). Shaped (perNode (t .shape)) x ks) (sym i) shaped) (omega (arith, length-drop k numbers)) (b .1)) in
+      (above-seen t s image 0 ks (drop k numbers) cs (numbers-drop k numbers small) (rw j (numbers-take k numbers small)) (belows-leaves t (take k numbers) (shares n k) bytes bytes-are) (omega arith) (subst (λ (x : ℕ). Shaped (perNode (t .shape)) x ks) (sym i) shaped) (omega (arith, length-drop k numbers)) (b .1)) in
       returned (lookIn (t .shape) image) limit (k ∷ ks) numbers bytes (visitOf (rootOf numbers) (suc (length ks) - 1)) (v .steps) (v .walked) (v .in-order) (v .by-level) (v .tops) (v .visited) most
 
   -- the tree that is built over as many blocks as planned is walked back, from any image that holds it

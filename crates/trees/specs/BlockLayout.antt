@@ -49,7 +49,7 @@ pub record Fresh (s : Shape) (block level n : ℕ) (x : Links) (b : List ℕ) : 
 -- its neighbours
 pub record Sound (t : Layout) : Type 0 where
   pub sized : Sized t
-  pub keys-bytes : (records : List ℕ) → IsBytes (t .keys records)
+  pub keys-bytes : (records : List ℕ) → IsBytes records → IsBytes (t .keys records)
   pub stamp-body : (block level n : ℕ) (x : Links) (b : List ℕ) → length b ≡ t .shape .size
       → drop (t .shape .header) (t .stamp block level n x b) ≡ drop (t .shape .header) b
   pub stamp-passes : (block level n : ℕ) (x : Links) (b : List ℕ) → Fresh (t .shape) block level n x b

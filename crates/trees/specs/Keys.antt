@@ -6,12 +6,12 @@ use mathlib.Core.Bool.{Bool, true, cond}
 use mathlib.Core.List.{List, [], _∷_, _++_}
 use lib.Dec.{ltb, eqb}
 use lib.ListN.{length, take, drop}
-use Rattle.codec.specs.Bytes.{bytesAt, beBytes}
+use Rattle.codec.specs.Bytes.{bytesAt}
 use Rattle.codec.specs.Records.{Kind, fieldBytes, recordsOf, rmaps}
 use Rattle.codec.specs.Rmaps.{offLimit, exempt, good}
 use Rattle.codec.specs.declared.rmap.Rmap.{Rmap}
-use Rattle.codec.specs.declared.refcount.Refcount.{Refcount}
 use Rattle.trees.specs.declared.keys.RmapKey.{RmapKey}
+use Rattle.trees.specs.Build.{padded}
 
 -- the records from one to another of a list of bytes
 abbrev pub recordsBetween : {R : Type 0} → Kind R → List ℕ → ℕ → ℕ → List R
@@ -74,11 +74,8 @@ rmapKeys rs = keyBytes (lowest rs) ++ keyBytes (highest rs)
 abbrev pub AllGood : List ℕ → Type 0
 AllGood l = (i : ℕ) → i < length l / rmaps .size → good (rmaps .decode (bytesAt l (i * rmaps .size) (rmaps .size))) ≡ true
 
--- ---- the shared counts: the first record's start
+-- ---- the other kinds: the first bytes of the first record, w of them (the counts' start, a whole free extent)
 
-abbrev pub firstStart : List Refcount → ℕ
-firstStart [] = 0
-firstStart (r ∷ rs) = r .startblock
-
-unfoldable pub refcountKeys : List Refcount → List ℕ
-refcountKeys rs = beBytes 4 (firstStart rs)
+-- no child of a built tree is without records: zeros stand for what is not there
+unfoldable pub firstKey : ℕ → List ℕ → List ℕ
+firstKey w b = padded w (take w b)

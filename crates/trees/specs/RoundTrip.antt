@@ -1,19 +1,22 @@
--- What it is for a walk to return a built tree.
+-- What it is for a walk to return a built tree, and the claim that it returns every one. The statement is `EveryTree`; proofs/BuiltReturned.antt proves it, and
+-- proofs/SmallTree.antt and proofs/SmallFree.antt have trees that meet its premises.
 -- Assumes nothing.
-use Prim.Native.Nat.{ℕ, _*_, _/_, _≤_}
+use Prim.Native.Nat.{ℕ, _*_, _/_, _≤_, max}
 use mathlib.Core.Path.{_≡_}
 use mathlib.Core.Bool.{true}
 use mathlib.Core.List.{List}
 use lib.ListN.{length}
-use Rattle.codec.specs.Bytes.{withBytes}
+use Rattle.codec.specs.Bytes.{IsBytes, withBytes}
 use Rattle.codec.specs.Question.{Outcome, done}
 use Rattle.blocks.specs.declared.geometry.Geometry.{Geometry}
 use Rattle.blocks.specs.declared.kind.TreeKind.{TreeKind}
+use Rattle.blocks.specs.Geometry.{Fits}
 use Rattle.blocks.specs.Tree.{recordLen}
 use Rattle.walks.specs.Walk.{Trace, perNode}
 use Rattle.walks.specs.WalkCall.{Lent, walkOf, report, blocksAfter, recordsAfter}
 use Rattle.walks.specs.Links.{saysLinked}
-use Rattle.trees.specs.Build.{planOf, rootOf}
+use Rattle.trees.specs.Build.{planOf, rootOf, AreNumbers, Places, stored}
+use Rattle.trees.specs.BuildCall.{buildOutcome}
 use Rattle.walks.specs.Shapes.{shapeOf}
 
 -- the planned levels of a list
@@ -42,3 +45,12 @@ pub record Returned (g : Geometry) (kind : TreeKind) (list numbers image : List 
   pub records : (l : List ℕ) → recordsAfter (walkBack g kind list numbers image m) l ≡ withBytes l 0 list
   pub blocks : (l : List ℕ) → blocksAfter (levelsFor g kind list) (walkBack g kind list numbers image m) l ≡ withBytes l 0 numbers
   pub linked : saysLinked (g .blocksize) image (levelsFor g kind list) (walkBack g kind list numbers image m) ≡ true
+
+-- every tree that build built, of any kind and on any version that has it, stored at distinct numbers inside an image, whatever else the image holds, and
+-- within the visit limit, is returned by the walk on the same geometry
+abbrev pub EveryTree : Type 0
+EveryTree =
+    (g : Geometry) (kind : TreeKind) (list numbers bytes : List ℕ) (room : ℕ) → Fits g → IsBytes list → AreNumbers numbers
+    → buildOutcome g kind list numbers room ≡ done bytes
+    → (image : List ℕ) (m : Lent) → Places (g .blocksize) (length image) numbers → length numbers ≤ max (g .agblocks) 64
+    → LongEnough g kind list numbers m → Returned g kind list numbers (stored (g .blocksize) image numbers bytes) m

@@ -30,10 +30,9 @@ use blocks::stamp::stamp;
 use codec::check::ListChecked;
 use codec::check::ListRefusal;
 use codec::copy::copy;
-use codec::endian::be32;
 use codec::endian::put_be32;
-use codec::refcount::REFCOUNT_LEN;
 use codec::refusal::Told;
+use free::order::Order;
 use walks::memory::zero8;
 
 // Why build is refused. The number of each case (docs/QUESTIONS.md) is `buildNumber` of specs/BuildAnswer.antt.
@@ -190,20 +189,18 @@ fn first(records: u64, levels: &[u64], level: usize, i: u64) -> u64
     start(records, levels[0], at)
 }
 
-// The keys of a child with the records from `from` to `to` under it.
+// The keys of a child with the records from `from` to `to` under it: in the reverse map low and high, else the first bytes of the first record.
 fn put_keys(kind: TreeKind, list: &[u8], from: usize, to: usize, b: &mut [u8], at: usize)
     requires { ⌜ Under kind (now list) from to × (at + keysLen kind ≤ length (now b)) ⌝ }
     ensures { λ _. ⌜ now (b .exit) ≡ withBytes (now (b .entry)) at (keysUnder kind
         (bytesAt (now (list .entry)) (from * recordLen kind) (to * recordLen kind - from * recordLen kind))) ⌝ }
 {
-    match kind {
-        TreeKind::Rmap => {
-            put_rmap_keys(list, from, to, b, at);
-        }
-        TreeKind::Refcount => {
-            let key = be32(list, from * REFCOUNT_LEN);
-            put_be32(b, at, key);
-        }
+    if kind.is_overlapping() {
+        put_rmap_keys(list, from, to, b, at);
+    } else {
+        let start = from * kind.record_len();
+        let end = start + kind.keys_len();
+        copy(&list[start..end], b, at);
     }
 }
 
@@ -426,6 +423,8 @@ fn check_list(kind: TreeKind, list: &[u8]) -> ListChecked
     match kind {
         TreeKind::Rmap => codec::rmap::check_order(list),
         TreeKind::Refcount => codec::refcount::check_order(list),
+        TreeKind::ByBlock => free::order::check_order(Order::ByBlock, list),
+        TreeKind::BySize => free::order::check_order(Order::BySize, list),
     }
 }
 

@@ -8,9 +8,8 @@ use lib.ListN.{length, getD, take, drop}
 use Rattle.codec.specs.Bytes.{bytesAt, beBytes}
 use Rattle.blocks.specs.declared.geometry.Geometry.{Geometry}
 use Rattle.blocks.specs.declared.kind.TreeKind.{TreeKind}
-use Rattle.blocks.specs.declared.kind.TreeKind.the-variants.{Rmap, Refcount}
 use Rattle.blocks.specs.Geometry.{geometryOk, nullAgBlock}
-use Rattle.blocks.specs.Tree.{hasTree, recordLen}
+use Rattle.blocks.specs.Tree.{hasTree, overlapping, recordLen}
 use Rattle.trees.specs.Plan.{sum, shares, firstOf}
 use Rattle.walks.specs.Walk.{perLeaf, perNode}
 use Rattle.trees.specs.Build.{Child, Block, nodeParts, blocksOf, buildAbove, planOf}
@@ -20,8 +19,7 @@ use Rattle.trees.specs.BuildCall.{layoutOf}
 
 -- a list whose keys can be worked out: in the reverse map each record is good
 abbrev pub Keyed : TreeKind → List ℕ → Type 0
-Keyed Rmap list = AllGood list
-Keyed Refcount list = Unit {0}
+Keyed kind list = overlapping kind ≡ true → AllGood list
 
 -- a geometry and a list that passed 1, 3, 19, and 20 or 21
 pub record Given (g : Geometry) (kind : TreeKind) (list : List ℕ) : Type 0 where

@@ -7,9 +7,11 @@ use lib.ListN.{length}
 use Rattle.codec.specs.Question.{Outcome, done, ask, answer}
 use Rattle.codec.specs.Rmaps as rmap
 use Rattle.codec.specs.Refcounts as refcount
+use Rattle.free.specs.Free as free
+use Rattle.free.specs.declared.order.Order.the-variants as order
 use Rattle.blocks.specs.declared.geometry.Geometry.{Geometry}
 use Rattle.blocks.specs.declared.kind.TreeKind.{TreeKind}
-use Rattle.blocks.specs.declared.kind.TreeKind.the-variants.{Rmap, Refcount}
+use Rattle.blocks.specs.declared.kind.TreeKind.the-variants.{Rmap, Refcount, ByBlock, BySize}
 use Rattle.walks.specs.Shapes.{shapeOf}
 use Rattle.trees.specs.Build.{planOf}
 use Rattle.trees.specs.BuildCall.{roomQuestions, builtBytes}
@@ -18,6 +20,8 @@ use Rattle.trees.specs.BuildCall.{roomQuestions, builtBytes}
 abbrev pub checkList : TreeKind → List ℕ → Outcome ℕ
 checkList Rmap l = rmap.checkOrder l
 checkList Refcount l = refcount.checkOrder l
+checkList ByBlock l = free.checkOrder order.ByBlock l
+checkList BySize l = free.checkOrder order.BySize l
 
 -- 17 and 18
 unfoldable pub roomOutcome : Geometry → TreeKind → List ℕ → List ℕ → ℕ → Outcome (List ℕ)

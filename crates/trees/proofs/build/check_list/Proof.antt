@@ -1,29 +1,25 @@
--- `trees::build::check_list` meets its contract.
+-- `trees::build::check_list` meets its contract: by the kind.
 -- Assumes nothing.
-use Rattle.trees.proofs.BuildLaws.{check-rmap, check-refcount}
+use Rattle.blocks.specs.declared.kind.TreeKind.the-variants.{Rmap, Refcount, ByBlock, BySize}
+use Rattle.trees.proofs.BuildLaws.{check-of}
 use borrow.Author.Needs.{needs}
 use Rattle.trees.proofs.build.check_list.Statement.{statement}
 use Rattle.trees.proofs.build.check_list.Tie as tie
 
-enum-told : tie.Need-enum-told
-enum-told c = search needs
-
-check-order-requires : tie.Need-check-order-requires
-check-order-requires c κs = search needs
-
-enum-told-2 : tie.Need-enum-told-2
-enum-told-2 c = search needs
-
-check-order-requires-2 : tie.Need-check-order-requires-2
-check-order-requires-2 c κs = search needs
-
 returns : tie.Need-returns
-returns c = check-rmap _ _ _ (c .before .enum-told .given .1) (c .check-order .ensures)
+returns c = check-of _ Rmap _ _ (c .before .enum-told .given .1) (c .check-order .ensures)
 
 returns-2 : tie.Need-returns-2
-returns-2 c = check-refcount _ _ _ (c .before .enum-told2 .given .1) (c .check-order2 .ensures)
+returns-2 c = check-of _ Refcount _ _ (c .before .enum-told2 .given .1) (c .check-order2 .ensures)
+
+returns-3 : tie.Need-returns-3
+returns-3 c = check-of _ ByBlock _ _ (c .before .enum-told3 .given .1) (c .check-order3 .ensures)
+
+returns-4 : tie.Need-returns-4
+returns-4 c = check-of _ BySize _ _ (c .before .enum-told4 .given .1) (c .check-order4 .ensures)
 
 pub check-list-spec : {M : Type 1} → statement M
 check-list-spec =
     tie.close
-    (tie.spec enum-told check-order-requires enum-told-2 check-order-requires-2 returns returns-2)
+    (tie.spec (λ c. search needs) (λ c κs. search needs) (λ c. search needs) (λ c κs. search needs) (λ c. search needs) (λ c κs. search needs) (λ c. search needs)
+    (λ c κs. search needs) returns returns-2 returns-3 returns-4)

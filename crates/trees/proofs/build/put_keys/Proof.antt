@@ -1,76 +1,59 @@
--- `trees::build::put_keys` meets its contract.
+-- `trees::build::put_keys` meets its contract: of a reverse map by its own keys, of any other kind by the first bytes of the first record.
 -- Assumes nothing.
+use mathlib.Core.Path.{sym, _∙_}
 use native.Mathlib.Omega.{arith}
-use lib.ListN.{length}
 use denote.Ref.{now}
-use Rattle.trees.proofs.NodeWriting.{under-rmap, under-refcount, keys-rmap, keys-refcount}
+use Rattle.trees.proofs.NodeWriting.{rmap-given, keys-rmap, records-in, key-in, key-first}
 use borrow.Author.Needs.{needs}
 use Rattle.trees.proofs.build.put_keys.Statement.{statement}
 use Rattle.trees.proofs.build.put_keys.Tie as tie
-
-enum-told : tie.Need-enum-told
-enum-told c = search needs
 
 put-rmap-keys-requires : tie.Need-put-rmap-keys-requires
 put-rmap-keys-requires c κs =
     let st = c .before .before .before .before .before in
     let a = st .args in
-    let u = under-rmap (a .kind) (now (a .list)) (a .from) (a .to) (a .at) (length (now (a .b))) (c .before .enum-told .given .1) (st .pre .0) (st .pre .1) in
-    ((u .0 .some, u .0 .inside, u .0 .keyed), u .1)
+    rmap-given (a .kind) (now (a .list)) (now (a .b)) (a .from) (a .to) (a .at) (st .pre .0) (sym (c .before .before .is-overlapping .ensures) ∙ c .before .if1 .taken) (st .pre .1)
 
-enum-told-2 : tie.Need-enum-told-2
-enum-told-2 c = search needs
-
-mul-be32 : tie.Need-mul-be32
-mul-be32 c =
-    let st = c .before .before .before .before in
+mul-start : tie.Need-mul-start
+mul-start c =
+    let st = c .before .before .before .before .before in
     let a = st .args in
-    let u = under-refcount (a .kind) (now (a .list)) (a .from) (a .to) (a .at) (length (now (a .b))) (c .enum-told2 .given .1) (st .pre .0) (st .pre .1) in
-    omega (arith, u .0 .some, u .0 .inside)
+    omega (arith, records-in (a .kind) (now (a .list)) (now (a .b)) (a .from) (a .to) (a .at) (st .pre .0) (c .record-len .result) (c .record-len .ensures))
 
-be32-requires : tie.Need-be32-requires
-be32-requires c κs =
-    let st = c .before .before .before .before in
-    let a = st .args in
-    let u = under-refcount (a .kind) (now (a .list)) (a .from) (a .to) (a .at) (length (now (a .b))) (c .enum-told2 .given .1) (st .pre .0) (st .pre .1) in
-    omega (arith, u .0 .some, u .0 .inside)
-
-put-be32-requires : tie.Need-put-be32-requires
-put-be32-requires c κs =
+add-end : tie.Need-add-end
+add-end c =
     let st = c .before .before .before .before .before .before in
     let a = st .args in
-    let u = under-refcount (a .kind) (now (a .list)) (a .from) (a .to) (a .at) (length (now (a .b))) (c .before .before .enum-told2 .given .1) (st .pre .0) (st .pre .1) in
-    omega (arith, u .1)
+    omega (
+      arith,
+      key-in (a .kind) (now (a .list)) (now (a .b)) (a .from) (a .to) (a .at) (st .pre .0) (sym (c .before .before .before .is-overlapping .ensures) ∙ c .before .before .if1 .left)
+          (c .before .record-len .result) (c .keys-len .result) (c .before .record-len .ensures) (c .keys-len .ensures),
+    )
 
-same-length : tie.Need-same-length
-same-length c = search needs
+part-copy-end : tie.Need-part-copy-end
+part-copy-end c =
+    let st = c .before .before .before .before .before .before in
+    let a = st .args in
+    key-in (a .kind) (now (a .list)) (now (a .b)) (a .from) (a .to) (a .at) (st .pre .0) (sym (c .before .before .before .is-overlapping .ensures) ∙ c .before .before .if1 .left)
+    (c .before .record-len .result) (c .keys-len .result) (c .before .record-len .ensures) (c .keys-len .ensures)
 
 returns : tie.Need-returns
 returns c =
     let st = c .before .before .before .before .before .before .before .before in
     let a = st .args in
-    keys-rmap (a .kind) (now (a .list)) (now (a .b)) _ (a .from) (a .to) (a .at) (c .before .before .before .before .enum-told .given .1) (st .pre .0) (c .before .before .put-rmap-keys .ensures)
-
-same-length-2 : tie.Need-same-length-2
-same-length-2 c = search needs
+    keys-rmap (a .kind) (now (a .list)) (now (a .b)) (a .from) (a .to) (a .at) (st .pre .0)
+    (sym (c .before .before .before .before .before .is-overlapping .ensures) ∙ c .before .before .before .before .if1 .taken) _ (c .before .before .put-rmap-keys .ensures)
 
 returns-2 : tie.Need-returns-2
 returns-2 c =
-    let st = c .before .before .before .before .before .before .before .before .before in
+    let k = c .before .before .before .before .before in
+    let st = k .before .before .before .before .before .before in
     let a = st .args in
-    keys-refcount (a .kind) (now (a .list)) (now (a .b)) _ (a .from) (a .to) (a .at) (c .before .before .before .before .be32 .result) (c .before .before .before .before .before .enum-told2 .given .1) (st .pre .0) (c .before .before .before .before .be32 .ensures) (c .before .before .put-be32 .ensures)
+    key-first (a .kind) (now (a .list)) (now (a .b)) (a .from) (a .to) (a .at) (st .pre .0) (sym (k .before .before .before .is-overlapping .ensures) ∙ k .before .before .if1 .left)
+    (k .before .record-len .result) (k .keys-len .result) (k .before .record-len .ensures) (k .keys-len .ensures) _ (c .before .before .copy .ensures)
 
 pub put-keys-spec : {M : Type 1} → statement M
 put-keys-spec =
     tie.close
-    (tie.spec
-    enum-told
-    put-rmap-keys-requires
-    enum-told-2
-    mul-be32
-    be32-requires
-    put-be32-requires
-    same-length
-    returns
-    same-length-2
-    returns-2)
+    (tie.spec (λ c κs. search needs) put-rmap-keys-requires (λ c κs. search needs) mul-start (λ c κs. search needs) add-end (λ c. search needs) (λ c. search needs)
+    part-copy-end (λ c κs. search needs) (λ c. search needs) returns (λ c. search needs) returns-2)

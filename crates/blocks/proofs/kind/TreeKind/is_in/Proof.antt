@@ -4,17 +4,8 @@ use borrow.Author.Needs.{needs}
 use Rattle.blocks.proofs.kind.TreeKind.is_in.Statement.{statement}
 use Rattle.blocks.proofs.kind.TreeKind.is_in.Tie as tie
 
-enum-told : tie.Need-enum-told
-enum-told c = search needs
-
-enum-told-2 : tie.Need-enum-told-2
-enum-told-2 c = search needs
-
-returns : tie.Need-returns
-returns c = rw (c .enum-told .given .1)
-
-returns-2 : tie.Need-returns-2
-returns-2 c = rw (c .enum-told2 .given .1)
-
 pub is-in-spec : {M : Type 1} → statement M
-is-in-spec = tie.close (tie.spec enum-told enum-told-2 returns returns-2)
+is-in-spec =
+    tie.close
+    (tie.spec (λ c. search needs) (λ c. search needs) (λ c. search needs) (λ c. search needs) (λ c. rw (c .enum-told .given .1)) (λ c. rw (c .enum-told2 .given .1))
+    (λ c. rw (c .enum-told3 .given .1)) (λ c. rw (c .enum-told4 .given .1)))
