@@ -73,28 +73,57 @@ fn show_fresh(name: &[u8], version: u16, kind: TreeKind, level: u16, numrecs: u1
     show(name, check_block(g, kind, AgBlock(7), level, &b));
 }
 
-// A node of the reverse map, number 7 of its group, with 3 entries, damaged at one byte, its check put in again or not.
-fn show_damaged(name: &[u8], at: usize, value: u8, again: bool) {
-    let g = group(5);
+// A node, number 7 of its group, with 3 entries, damaged at one byte, its check put in again or not.
+fn show_hurt(name: &[u8], version: u16, kind: TreeKind, at: usize, value: u8, again: bool) {
+    let g = group(version);
     let mut b = [0u8; 512];
-    fresh(g, TreeKind::Rmap, 7, 1, 3, &mut b);
+    fresh(g, kind, 7, 1, 3, &mut b);
     damage(&mut b, at, value, again);
-    show(name, check_block(g, TreeKind::Rmap, AgBlock(7), 1, &b));
+    show(name, check_block(g, kind, AgBlock(7), 1, &b));
 }
 
-// The same block, undamaged, taken for another one.
-fn show_as(name: &[u8], kind: TreeKind, block: u32, level: u16) {
-    let g = group(5);
+// Such a node of the reverse map.
+fn show_damaged(name: &[u8], at: usize, value: u8, again: bool) {
+    show_hurt(name, 5, TreeKind::Rmap, at, value, again);
+}
+
+// Such a node, undamaged, looked for as another block or at another level.
+fn show_sought(name: &[u8], version: u16, kind: TreeKind, block: u32, level: u16) {
+    let g = group(version);
     let mut b = [0u8; 512];
-    fresh(g, TreeKind::Rmap, 7, 1, 3, &mut b);
+    fresh(g, kind, 7, 1, 3, &mut b);
     show(name, check_block(g, kind, AgBlock(block), level, &b));
 }
 
-// A leaf of the counts with no records, of all the bytes of `b`.
-fn show_small(name: &[u8], version: u16, b: &mut [u8]) {
+// Such a node of a version and a kind, taken for one of another.
+fn show_taken(name: &[u8], stamped: u16, kind: TreeKind, version: u16, other: TreeKind) {
+    let mut b = [0u8; 512];
+    fresh(group(stamped), kind, 7, 1, 3, &mut b);
+    show(name, check_block(group(version), other, AgBlock(7), 1, &b));
+}
+
+// A leaf with no records, of all the bytes of `b`.
+fn show_small(name: &[u8], version: u16, kind: TreeKind, b: &mut [u8]) {
     let g = group(version);
-    fresh(g, TreeKind::Refcount, 7, 0, 0, b);
-    show(name, check_block(g, TreeKind::Refcount, AgBlock(7), 0, b));
+    fresh(g, kind, 7, 0, 0, b);
+    show(name, check_block(g, kind, AgBlock(7), 0, b));
+}
+
+// The header of a fresh block by block on version 4 with siblings, and what stands behind it, eight bytes at a time.
+fn show_header_of_four() {
+    let mut b = [0x5Au8; 512];
+    between(
+        group(4),
+        TreeKind::ByBlock,
+        0x01020304,
+        0x0506,
+        0x0708,
+        0x090A0B0C,
+        0x0D0E0F10,
+        &mut b,
+    );
+    io::write_all(1, b"header, 4\n");
+    words(&b);
 }
 
 // The header of a fresh block with siblings, eight bytes at a time.
@@ -161,15 +190,19 @@ fn accepted() {
 
 fn short() {
     let mut b = [0u8; 55];
-    show_small(b"55 bytes", 5, &mut b);
+    show_small(b"55 bytes", 5, TreeKind::Refcount, &mut b);
     let mut b = [0u8; 56];
-    show_small(b"56 bytes", 5, &mut b);
+    show_small(b"56 bytes", 5, TreeKind::Refcount, &mut b);
     let mut b = [0u8; 60];
-    show_small(b"60 bytes", 5, &mut b);
+    show_small(b"60 bytes", 5, TreeKind::Refcount, &mut b);
     let mut b = [0u8; 15];
-    show_small(b"15 bytes on version 4", 4, &mut b);
+    show_small(b"15 bytes on version 4", 4, TreeKind::Refcount, &mut b);
     let mut b = [0u8; 16];
-    show_small(b"16 bytes on version 4", 4, &mut b);
+    show_small(b"16 bytes on version 4", 4, TreeKind::Refcount, &mut b);
+    let mut b = [0u8; 15];
+    show_small(b"15 bytes by block", 4, TreeKind::ByBlock, &mut b);
+    let mut b = [0u8; 24];
+    show_small(b"24 bytes by block", 4, TreeKind::ByBlock, &mut b);
 }
 
 fn damaged() {
@@ -187,10 +220,51 @@ fn damaged() {
     show_damaged(b"left sibling", 11, 5, true);
     show_damaged(b"right sibling", 12, 0, true);
     show_damaged(b"level, not sealed", 4, 1, false);
-    show_as(b"as counts", TreeKind::Refcount, 7, 1);
-    show_as(b"as block 8", TreeKind::Rmap, 8, 1);
-    show_as(b"as block 8 and leaf", TreeKind::Rmap, 8, 0);
-    show_as(b"as leaf", TreeKind::Rmap, 7, 0);
+    show_taken(b"as counts", 5, TreeKind::Rmap, 5, TreeKind::Refcount);
+    show_sought(b"as block 8", 5, TreeKind::Rmap, 8, 1);
+    show_sought(b"as block 8 and leaf", 5, TreeKind::Rmap, 8, 0);
+    show_sought(b"as leaf", 5, TreeKind::Rmap, 7, 0);
+}
+
+fn free_space() {
+    show_fresh(b"by-block leaf, 4", 4, TreeKind::ByBlock, 0, 62);
+    show_fresh(b"by-block leaf, 4, too full", 4, TreeKind::ByBlock, 0, 63);
+    show_fresh(b"by-block node, 4", 4, TreeKind::ByBlock, 1, 41);
+    show_fresh(b"by-block node, 4, too full", 4, TreeKind::ByBlock, 1, 42);
+    show_fresh(b"by-block leaf, 5", 5, TreeKind::ByBlock, 0, 57);
+    show_fresh(b"by-block leaf, 5, too full", 5, TreeKind::ByBlock, 0, 58);
+    show_fresh(b"by-size leaf, 4", 4, TreeKind::BySize, 0, 62);
+    show_fresh(b"by-size node, 5", 5, TreeKind::BySize, 1, 38);
+    show_fresh(b"by-size node, 5, too full", 5, TreeKind::BySize, 1, 39);
+}
+
+fn free_space_taken() {
+    let block = TreeKind::ByBlock;
+    let size = TreeKind::BySize;
+    show_taken(b"by size as by block, 4", 4, size, 4, block);
+    show_taken(b"by block as by size, 5", 5, block, 5, size);
+    show_taken(b"by block of 4 on 5", 4, block, 5, block);
+    show_taken(b"by size of 5 on 4", 5, size, 4, size);
+    show_taken(b"by block as map, 4", 4, block, 4, TreeKind::Rmap);
+    show_taken(b"by block as counts, 5", 5, block, 5, TreeKind::Refcount);
+    show_sought(b"by block as block 8, 4", 4, block, 8, 1);
+    show_sought(b"by block as block 8, 5", 5, block, 8, 1);
+    show_sought(b"by size as leaf, 4", 4, size, 7, 0);
+}
+
+fn free_space_damaged() {
+    show_hurt(b"by-block magic, 4", 4, TreeKind::ByBlock, 3, 0x43, false);
+    show_hurt(b"by-block body, 4", 4, TreeKind::ByBlock, 511, 1, false);
+    show_hurt(b"by-block byte 52, 4", 4, TreeKind::ByBlock, 52, 1, false);
+    show_hurt(b"by-block level, 4", 4, TreeKind::ByBlock, 4, 1, false);
+    show_hurt(b"by-block records, 4", 4, TreeKind::ByBlock, 7, 42, false);
+    show_hurt(b"by-block left, 4", 4, TreeKind::ByBlock, 11, 5, false);
+    show_hurt(b"by-size body, 5", 5, TreeKind::BySize, 511, 1, false);
+    show_hurt(b"by-size uuid, 5", 5, TreeKind::BySize, 32, 0, true);
+    show_hurt(b"by-size owner, 5", 5, TreeKind::BySize, 51, 4, true);
+    show_hurt(b"by-size address, 5", 5, TreeKind::BySize, 16, 1, true);
+    show_hurt(b"by-size level, 5", 5, TreeKind::BySize, 4, 1, true);
+    show_hurt(b"by-size records, 5", 5, TreeKind::BySize, 7, 39, true);
 }
 
 fn main() {
@@ -198,5 +272,9 @@ fn main() {
     accepted();
     short();
     damaged();
+    free_space();
+    free_space_taken();
+    free_space_damaged();
     show_header();
+    show_header_of_four();
 }

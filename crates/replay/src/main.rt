@@ -17,8 +17,11 @@ use show::places::all64;
 use tree_calls::block_calls::kf_check_block;
 use tree_calls::block_calls::kf_crc32c;
 use tree_calls::block_calls::kf_crc32c_singly;
+use tree_calls::list_checks::kf_check_by_block;
+use tree_calls::list_checks::kf_check_by_size;
 use tree_calls::list_checks::kf_check_refcounts;
 use tree_calls::list_checks::kf_check_rmaps;
+use tree_calls::list_checks::kf_same_extents;
 use tree_calls::whole_trees::kf_build;
 use tree_calls::whole_trees::kf_lookup;
 use tree_calls::whole_trees::kf_plan;
@@ -92,9 +95,17 @@ fn on_list(head: &[u8], call: u32, list: &[u8]) -> bool {
         1 => kf_crc32c(list),
         2 => kf_check_rmaps(list),
         3 => kf_check_refcounts(list),
+        19 => kf_check_by_block(list),
+        20 => kf_check_by_size(list),
         _ => kf_crc32c_singly(list),
     };
     answer == number(head, 1)
+}
+
+fn on_two_lists(head: &[u8], by_block: &[u8], by_size: &[u8]) -> bool {
+    let mut said = [0xA5u64; 4];
+    let answer = kf_same_extents(by_block, by_size, &mut said);
+    said_as_due(head, answer, said)
 }
 
 fn on_block(head: &[u8], block: &[u8]) -> bool {
@@ -537,7 +548,7 @@ fn call_as_due(
 ) -> bool {
     let call = number(head, 0);
     match call {
-        1 | 2 | 3 | 15 => on_list(head, call, a),
+        1 | 2 | 3 | 15 | 19 | 20 => on_list(head, call, a),
         4 => on_block(head, a),
         5 => on_plan(head, a),
         6 => on_build(head, a, b, x, list),
@@ -548,6 +559,7 @@ fn call_as_due(
         13 | 17 => on_real_walk(head, b, x),
         14 => on_take_held(head, a, b, x, y),
         18 => on_lookup(head, a, b, x, list),
+        21 => on_two_lists(head, a, b),
         _ => false,
     }
 }

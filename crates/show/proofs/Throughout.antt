@@ -1,15 +1,15 @@
 -- A list read from its start on, until an element is another number than `v`.
 -- Assumes nothing.
-use Prim.Native.Nat.{ℕ, _+_, _<_, _≤_}
-use mathlib.Core.Path.{_≡_, refl, sym, _∙_}
+use Prim.Native.Nat.{ℕ, _+_, _-_, _<_, _≤_}
+use mathlib.Core.Path.{_≡_, refl, sym, ap, _∙_}
 use mathlib.Core.Bool.{true, false}
 use mathlib.Core.List.{List}
 use native.Mathlib.Numerals.{add-one}
 use native.Mathlib.Omega.{arith}
-use lib.ListN.{length, drop, getD, drop-of-length-le}
-use lib.Seq.{drop-cons}
-use borrow.Author.Tests.{eq-eqb, ne-eqb}
-use Rattle.show.specs.Places.{throughout}
+use lib.ListN.{length, take, drop, getD, length-drop, drop-of-length-le}
+use lib.Seq.{drop-cons, take-all}
+use borrow.Author.Tests.{eq-eqb, ne-eqb, le-leb, lt-leb}
+use Rattle.show.specs.Places.{throughout, tailThroughout}
 
 -- the elements before place i are v, so those from there on decide
 pub record Read (b : List ℕ) (v i : ℕ) : Type 0 where
@@ -28,3 +28,12 @@ module _ {b : List ℕ} {v i : ℕ} (r : Read b v i) where
 
   pub end : length b ≤ i → true ≡ throughout b v
   end h = sym (r .rest ∙ rw (drop-of-length-le b {i = i} h))
+
+-- ---- from a place on
+
+pub tail-short : (l : List ℕ) (from v : ℕ) → length l < from → false ≡ tailThroughout l from v
+tail-short l from v h = rw (lt-leb from (length l) h)
+
+pub tail-there : (l : List ℕ) (from v : ℕ) → from ≤ length l → throughout (take (length l - from) (drop from l)) v ≡ tailThroughout l from v
+tail-there l from v h =
+    rw (le-leb from (length l) h) (ap (λ (x : List ℕ). throughout x v) (take-all (length l - from) (drop from l) (omega (arith, length-drop from l))))

@@ -7,9 +7,18 @@ use codec::refusal::Told;
 use codec::refusal::Values;
 
 // A name, and a number in decimal.
-fn number(name: &[u8], n: u64) {
+pub(crate) fn number(name: &[u8], n: u64) {
     io::write_all(1, name);
     io::print_decimal(1, n);
+}
+
+// One of two texts.
+pub(crate) fn either(first: bool, a: &[u8], b: &[u8]) {
+    if first {
+        io::write_all(1, a);
+    } else {
+        io::write_all(1, b);
+    }
 }
 
 // Four bytes at a time, in hexadecimal, on one line. Says how many numbers these are.

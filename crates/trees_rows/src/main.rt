@@ -13,11 +13,13 @@ use codec::copy::copy;
 use codec::endian::put_be32;
 use codec::rmap::Rmap;
 use codec::rmap::encode;
+use show::lent::show_blocks;
+use show::lent::show_scratches;
+use show::lent::show_state;
+use show::lent::show_tail;
+use show::lent::show_tails;
 use show::lines::show_told;
 use show::lines::words;
-use show::places::all8;
-use show::places::all32;
-use show::places::all64;
 use show::samples::damage;
 use show::samples::fresh;
 use show::samples::geometry;
@@ -152,14 +154,6 @@ fn plant(image: &mut [u8]) {
     place(&out, &at, image);
 }
 
-// What became of the bytes from a place on.
-fn show_tail(out: &[u8], from: usize) {
-    if out.len() < from {
-        return;
-    }
-    either(all8(&out[from..], 0xEE), b" kept", b" written");
-}
-
 fn show_built(answer: Built, out: &[u8]) {
     match answer {
         Built::Done(n) => {
@@ -225,67 +219,11 @@ fn root() {
     show_root(&image);
 }
 
-// Is every place of both scratches and both lists `value`?
-fn throughout(stack: &[u32], scratch: &[u64], blocks: &[u32], records: &[u8], value: u8) -> bool {
-    if !all32(stack, value as u32) {
-        return false;
-    }
-    if !all64(scratch, value as u64) {
-        return false;
-    }
-    if !all32(blocks, value as u32) {
-        return false;
-    }
-    all8(records, value)
-}
-
-fn show_state(stack: &[u32], scratch: &[u64], blocks: &[u32], records: &[u8]) {
-    if throughout(stack, scratch, blocks, records, 0) {
-        io::write_all(1, b" zero");
-        return;
-    }
-    either(
-        throughout(stack, scratch, blocks, records, 0xEE),
-        b" kept",
-        b" mixed",
-    );
-}
-
 // Are these the records that the tree was built from?
 fn show_records(got: &[u8]) {
     let mut list = [0u8; 4800];
     fill(&mut list);
     either(same(&list, got), b" same", b" differ");
-}
-
-fn show_scratches(stack: &[u32], scratch: &[u64]) {
-    io::write_all(1, b" scratches");
-    if !all32(stack, 0) {
-        io::write_all(1, b" dirty");
-        return;
-    }
-    either(all64(scratch, 0), b" zero", b" dirty");
-}
-
-fn show_tails(blocks: &[u32], records: &[u8]) {
-    io::write_all(1, b" tails");
-    if !all32(blocks, 0xEE) {
-        io::write_all(1, b" written");
-        return;
-    }
-    either(all8(records, 0xEE), b" kept", b" written");
-}
-
-fn show_block(block: u32) {
-    number(b" ", block as u64);
-}
-
-fn show_blocks(blocks: &[u32]) {
-    let mut i = 0;
-    while i < blocks.len() {
-        show_block(blocks[i]);
-        i += 1;
-    }
 }
 
 fn show_read(

@@ -1,10 +1,11 @@
--- `trees_rows::show_blocks` is safe and ends.
+-- `show::lent::show_blocks` meets its contract.
 -- Assumes nothing.
 use Prim.Native.Nat.{_≤_, _-_}
+use native.Mathlib.Omega.{arith}
 use lib.ListN.{length}
 use borrow.Author.Needs.{needs}
-use Rattle.trees_rows.proofs.show_blocks.Statement.{statement}
-use Rattle.trees_rows.proofs.show_blocks.Tie as tie
+use Rattle.show.proofs.lent.show_blocks.Statement.{statement}
+use Rattle.show.proofs.lent.show_blocks.Tie as tie
 
 abbrev Inv-loop : tie.InvT-loop
 Inv-loop blocks i₀ i = i ≤ length blocks
@@ -34,7 +35,7 @@ loop-again : tie.Need-loop-again Inv-loop μ-loop
 loop-again c = search needs
 
 returns : tie.Need-returns Inv-loop μ-loop
-returns c = search needs
+returns c = omega (arith, c .before .loop .inv)
 
 pub show-blocks-spec : {M : Type 1} → statement M
 show-blocks-spec =
