@@ -31,8 +31,9 @@
  * What is not. That this header declares those functions: it is trusted for names, parameters, constants and words. bindings/tests/interface.rs
  * holds names and parameters against the Rattle source and the Rust declarations, constants against the Rust crate, and the numbers of the
  * questions against docs/QUESTIONS.md and the Rattle source; nothing but reading holds the words. That a C compiler passes parameters as the
- * Rattle back end takes them, which is the calling convention of x86-64 System V. That a caller keeps its duties, and that the two lists of a
- * group agree: what a let go says is free goes by the shared counts, and no call asks whether they agree with the reverse map. */
+ * Rattle back end takes them, which is the calling convention of x86-64 System V. That a caller keeps its duties, and that the reverse map and
+ * the shared counts of a group agree: what a let go says is free goes by the shared counts, and no call asks whether they agree with the
+ * reverse map. */
 #ifndef KF_H
 #define KF_H
 
@@ -46,9 +47,12 @@ extern "C" {
 #define KF_GEOMETRY \
     uint16_t version, uint32_t blocksize, uint32_t agblocks, uint32_t agno, uint64_t uuid_high, uint64_t uuid_low
 
-/* The kinds of tree. Pass no other: today any other number is taken for KF_KIND_REFCOUNT, and the next kinds of tree will get 2 and up. */
+/* The kinds of tree: the reverse map, the shared counts, free space by block and free space by size. Version 4 has the last two alone. Pass no
+ * other: today any other number is taken for KF_KIND_REFCOUNT, and the next kinds of tree will get 4 and up. */
 #define KF_KIND_RMAP 0u
 #define KF_KIND_REFCOUNT 1u
+#define KF_KIND_BY_BLOCK 2u
+#define KF_KIND_BY_SIZE 3u
 
 /* The bytes of a reverse-map record, of a record of the shared counts and of a free extent. */
 #define KF_RMAP_BYTES 24u
@@ -71,7 +75,8 @@ enum kf_answer {
     KF_Q_SHORT_BUFFER = 2,
     /* Has a volume of this version such a tree? */
     KF_Q_NO_TREE = 3,
-    /* Are the first four bytes the magic number of the tree: 0x524D4233 for the reverse map, 0x52334643 for the shared counts? */
+    /* Are the first four bytes the magic number of the tree: on version 5 0x524D4233 for the reverse map, 0x52334643 for the shared counts,
+     * 0x41423342 for free space by block and 0x41423343 for free space by size, on version 4 0x41425442 and 0x41425443 for the last two? */
     KF_Q_MAGIC = 4,
     /* Is the CRC right? */
     KF_Q_CRC = 5,
@@ -102,12 +107,12 @@ enum kf_answer {
     KF_Q_BLOCK_NUMBERS = 17,
     /* Is the output at least as long as the planned blocks? */
     KF_Q_OUTPUT = 18,
-    /* Is the length of the list a multiple of its record's: 24 for the reverse map, 12 for the shared counts? */
+    /* Is the length of the list a multiple of its record's: 24 for the reverse map, 12 for the shared counts, 8 for free extents? */
     KF_Q_LIST_LENGTH = 19,
     /* Is it an accepted reverse map? */
     KF_Q_RMAP_ORDER = 20,
-    /* Are they accepted shared counts? */
-    KF_Q_REFCOUNT_ORDER = 21,
+    /* Are they accepted shared counts or free extents? */
+    KF_Q_EXTENT_ORDER = 21,
     /* Is the extent good? */
     KF_Q_EXTENT = 22,
     /* Is nothing in the way of a take? */
@@ -135,6 +140,14 @@ uint32_t kf_crc32c_singly(const uint8_t *bytes, size_t bytes_len);
 uint32_t kf_check_rmaps(const uint8_t *list, size_t list_len);
 /* Are they accepted shared counts (19, 21)? */
 uint32_t kf_check_refcounts(const uint8_t *list, size_t list_len);
+/* Are they accepted free extents by block (19, 21)? */
+uint32_t kf_check_by_block(const uint8_t *list, size_t list_len);
+/* Are they accepted free extents by size (19, 21)? */
+uint32_t kf_check_by_size(const uint8_t *list, size_t list_len);
+
+/* Do the list by block and the list by size hold the same extents, equally often (19, 21 of the first, then 19, 21 of the second)?
+ * said: 1 if they do, else 0, then 0, 0, 0; refused: zeros. */
+uint32_t kf_same_extents(const uint8_t *by_block, size_t by_block_len, const uint8_t *by_size, size_t by_size_len, uint64_t said[KF_FIGURES]);
 
 /* Is it block `block` of the group's tree, at level `level` (1 to 10)?
  * said: records or entries, how many fit, the block named before it on its level, the one named after it (KF_NO_SIBLING: none); refused:
@@ -157,8 +170,8 @@ uint32_t kf_build(KF_GEOMETRY, uint32_t kind, const uint8_t *list, size_t list_l
 /* The records of a tree of so many levels, from its root, and its blocks by level, leaves first. The image is the group, block n at n times
  * the block size. The stack takes 2 x levels x node capacity places, the scratch as many as `blocks` (1, 11, 12; then at each block 13, 14,
  * 3 to 10, 15). The node capacity is (block size - header) / entry, rounded down: a header of 56 bytes (16 on version 4), entries of 44 bytes in
- * the reverse map and of 8 in the shared counts. A refusal by 1, 11 or 12 touches none of the four; any other leaves all four zero. A finished
- * walk leaves the stack and the scratch zero, and the lists past the result as they were.
+ * the reverse map, of 8 in the shared counts and of 12 in the free-space trees. A refusal by 1, 11 or 12 touches none of the four; any other
+ * leaves all four zero. A finished walk leaves the stack and the scratch zero, and the lists past the result as they were.
  * said: visits, records, bytes of records, 0; refused: expected, found, visits, 0. */
 uint32_t kf_walk(KF_GEOMETRY, uint32_t kind, const uint8_t *image, size_t image_len, uint32_t root, uint32_t levels,
                  uint32_t *stack, size_t stack_len, uint64_t *scratch, size_t scratch_len,

@@ -1,6 +1,8 @@
-//! `all_groups CASE...`: walks both trees of each group of a volume, one case
-//! file a group, on all cores, and prints a line for each, in the order given.
-//! (The two in `data` are of two volumes: each group has its geometry with it.)
+//! `all_groups CASE...`: walks the reverse map and the shared counts of each group
+//! of a volume, one case file a group, on all cores, and prints a line for each, in
+//! the order given.
+//! (Those in `data` are of different volumes: each group has its geometry with it.
+//! That of version 4 has neither tree.)
 //!
 //! The walks are the proved library's; the threads are this program's.
 
@@ -18,7 +20,7 @@ fn main() -> ExitCode {
     case::main("all_groups CASE...", 1..=usize::MAX, run)
 }
 
-/// Walks both trees of one group.
+/// Walks the two trees of one group.
 fn report(case: &Case) -> Result<String, Box<dyn Error>> {
     let (map, counts) = (case.root(Kind::Rmap)?, case.root(Kind::Refcount)?);
     let agno = case.geometry.agno;
@@ -129,17 +131,15 @@ mod tests {
             hex(&g.meta_uuid)
         );
         let tree = |kind| Tree::walk(old, kind, &case.image, case.root(kind).unwrap()).unwrap();
-        let (map, counts) = (tree(Kind::Rmap), tree(Kind::Refcount));
-        let group = Group::new(map.records, counts.records);
-        for (name, kind, blocks) in [
-            ("rmap", Kind::Rmap, map.blocks),
-            ("refcount", Kind::Refcount, counts.blocks),
-        ] {
-            let plan = group.plan(&g, kind).unwrap();
+        for (name, kind) in [("rmap", Kind::Rmap), ("refcount", Kind::Refcount)] {
+            let Tree {
+                records, blocks, ..
+            } = tree(kind);
+            let plan = Tree::plan(&g, kind, &records).unwrap();
             let numbers = &blocks[..plan.total as usize];
             let root = plan.root(numbers).unwrap();
             text += &format!("tree {name} root {} levels {}\n", root.root, root.levels);
-            let built = group.build(&g, kind, numbers).unwrap();
+            let built = Tree::build(&g, kind, &records, numbers).unwrap();
             for (n, block) in numbers.iter().zip(built.chunks(g.blocksize as usize)) {
                 text += &format!("block {n} {}\n", hex(block));
             }

@@ -1,6 +1,7 @@
 //! `retire CASE OWNER`: lets all extents of an owner go from the group of a case
-//! file and prints what is free again; then builds both trees afresh in a copy
-//! of the image and walks them back. The case file is left as it is.
+//! file and prints what is free again; then builds the reverse map and the shared
+//! counts afresh in a copy of the image and walks them back. The case file is left
+//! as it is, and so are the free-space trees.
 //!
 //! Walks, edits, plans and builds are the proved library's. Which extents go,
 //! that none of the free blocks is held, which blocks the trees get and that
@@ -205,11 +206,11 @@ fn build_both(
         .flat_map(|x| x.startblock..x.startblock + x.blockcount)
         .filter(|n| *n < g.agblocks && !in_old(n));
     let mut copy = image.to_vec();
-    let mut build = |kind: Kind, blocks: &[u32]| -> Result<Root, Box<dyn Error>> {
-        let plan = group.plan(g, kind)?;
+    let mut build = |kind: Kind, list: &[u8], blocks: &[u32]| -> Result<Root, Box<dyn Error>> {
+        let plan = Tree::plan(g, kind, list)?;
         let numbers = numbers(plan.total.try_into()?, blocks, &mut spare)
             .map_err(|e| format!("{kind}: {e}"))?;
-        let built = group.build(g, kind, &numbers)?;
+        let built = Tree::build(g, kind, list, &numbers)?;
         for (&n, block) in numbers.iter().zip(built.chunks_exact(g.blocksize as usize)) {
             case::put(&mut copy, n, block)?;
         }
@@ -222,8 +223,8 @@ fn build_both(
         let root = plan.root(&numbers).ok_or("other numbers than planned")?;
         Ok(root)
     };
-    let map = build(old[0].0, &old[0].1)?;
-    let counts = build(old[1].0, &old[1].1)?;
+    let map = build(old[0].0, &group.map, &old[0].1)?;
+    let counts = build(old[1].0, &group.counts, &old[1].1)?;
     Ok((copy, [map, counts]))
 }
 
@@ -394,10 +395,8 @@ mod tests {
         let case = Case::read(SMALL).unwrap();
         let root = case.root(Kind::Refcount).unwrap();
         let tree = Tree::walk(&case.geometry, Kind::Refcount, &case.image, root).unwrap();
-        let fewer = Group::new(vec![], tree.records[12..].to_vec());
-        let built = fewer
-            .build(&case.geometry, Kind::Refcount, &tree.blocks)
-            .unwrap();
+        let (kind, fewer) = (Kind::Refcount, &tree.records[12..]);
+        let built = Tree::build(&case.geometry, kind, fewer, &tree.blocks).unwrap();
         let hex: String = built.iter().map(|b| format!("{b:02x}")).collect();
         let text = std::fs::read_to_string(SMALL).unwrap();
         let lines: Vec<String> = text

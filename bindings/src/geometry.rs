@@ -1,7 +1,7 @@
 //! What tells a group and a tree apart from others.
 
-use crate::raw::{KF_KIND_REFCOUNT, KF_KIND_RMAP};
-use crate::records::{REFCOUNT, RMAP};
+use crate::raw::{KF_KIND_BY_BLOCK, KF_KIND_BY_SIZE, KF_KIND_REFCOUNT, KF_KIND_RMAP};
+use crate::records::{FREE_EXTENT, REFCOUNT, RMAP};
 use core::fmt;
 
 /// What every call on blocks is given of a volume and its group.
@@ -68,7 +68,8 @@ impl Geometry {
     }
 }
 
-/// Which tree of a group.
+/// Which tree of a group. Version 5 has all four, version 4 the two of free
+/// space.
 #[derive(Debug, Clone, Copy, PartialEq, Eq, Hash)]
 #[non_exhaustive]
 pub enum Kind {
@@ -76,6 +77,10 @@ pub enum Kind {
     Rmap,
     /// The shared counts.
     Refcount,
+    /// Free space by block (bnobt): the free extents by their starts.
+    ByBlock,
+    /// Free space by size (cntbt): the same extents by their counts, then starts.
+    BySize,
 }
 
 impl Kind {
@@ -84,11 +89,23 @@ impl Kind {
     /// ```
     /// assert_eq!(kf::Kind::Rmap.record_len(), kf::RMAP);
     /// assert_eq!(kf::Kind::Refcount.record_len(), kf::REFCOUNT);
+    /// assert_eq!(kf::Kind::ByBlock.record_len(), kf::FREE_EXTENT);
+    /// assert_eq!(kf::Kind::BySize.record_len(), kf::FREE_EXTENT);
     /// ```
     pub const fn record_len(self) -> usize {
         match self {
             Kind::Rmap => RMAP,
             Kind::Refcount => REFCOUNT,
+            Kind::ByBlock | Kind::BySize => FREE_EXTENT,
+        }
+    }
+
+    /// The bytes of an entry of its nodes: the keys of a child, and a pointer of 4.
+    pub(crate) const fn entry_len(self) -> usize {
+        match self {
+            Kind::Rmap => 44,
+            Kind::Refcount => 8,
+            Kind::ByBlock | Kind::BySize => 12,
         }
     }
 
@@ -97,6 +114,8 @@ impl Kind {
         match self {
             Kind::Rmap => KF_KIND_RMAP,
             Kind::Refcount => KF_KIND_REFCOUNT,
+            Kind::ByBlock => KF_KIND_BY_BLOCK,
+            Kind::BySize => KF_KIND_BY_SIZE,
         }
     }
 }
@@ -106,6 +125,8 @@ impl fmt::Display for Kind {
         f.write_str(match self {
             Kind::Rmap => "reverse map",
             Kind::Refcount => "shared counts",
+            Kind::ByBlock => "free space by block",
+            Kind::BySize => "free space by size",
         })
     }
 }

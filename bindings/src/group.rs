@@ -25,12 +25,14 @@ mod tests;
 #[non_exhaustive]
 pub struct Root {
     /// The number of the root in the group (`agf_rmap_root`,
-    /// `agf_refcount_root`).
+    /// `agf_refcount_root`, `agf_bno_root`, `agf_cnt_root`).
     pub root: u32,
-    /// The levels (`agf_rmap_level`, `agf_refcount_level`).
+    /// The levels (`agf_rmap_level`, `agf_refcount_level`, `agf_bno_level`,
+    /// `agf_cnt_level`).
     pub levels: u32,
     /// The most blocks that the tree may have (`agf_rmap_blocks`,
-    /// `agf_refcount_blocks`).
+    /// `agf_refcount_blocks`). The header has no such number of each free-space
+    /// tree: `u32::MAX` will do.
     pub blocks: u32,
 }
 
@@ -177,6 +179,58 @@ impl Tree {
         Ok(LookedUp { holders, visits })
     }
 
+    /// The blocks of a fresh tree of a list of the kind, by level. Questions 1
+    /// and 16.
+    ///
+    /// ```
+    /// use kf::{Geometry, Kind, Tree};
+    /// let g = Geometry::new(5, 512, 9, 0, [7; 16]);
+    /// // A tree of no records is one block.
+    /// assert_eq!(Tree::plan(&g, Kind::Rmap, &[]).unwrap().total, 1);
+    /// // 57 free extents fill a leaf, and 62 on version 4.
+    /// let list = [0; 58 * kf::FREE_EXTENT];
+    /// assert_eq!(Tree::plan(&g, Kind::ByBlock, &list).unwrap().levels(), [2, 1]);
+    /// let g = Geometry::new(4, 512, 9, 0, [7; 16]);
+    /// assert_eq!(Tree::plan(&g, Kind::ByBlock, &list).unwrap().levels(), [1]);
+    /// ```
+    pub fn plan(g: &Geometry, kind: Kind, list: &[u8]) -> Result<Plan, Refusal> {
+        lent::plan(g, kind, (list.len() / kind.record_len()) as u64)
+    }
+
+    /// The blocks of a fresh tree of a list of the kind, one after another, root
+    /// last. `numbers` are their numbers in the group, leaves first, as many as
+    /// [`Tree::plan`] says. Questions 1, 3, 19, 20 or 21, 16 and 17.
+    ///
+    /// ```
+    /// use kf::{check_block, FreeExtent, Geometry, Kind, Question, Tree};
+    /// let g = Geometry::new(5, 512, 9, 0, [7; 16]);
+    /// let list = FreeExtent { startblock: 4, blockcount: 2 }.to_bytes();
+    /// let block = Tree::build(&g, Kind::ByBlock, &list, &[8]).unwrap();
+    /// assert!(check_block(&g, Kind::ByBlock, 8, 0, &block).is_ok());
+    /// let refusal = Tree::build(&g, Kind::ByBlock, &list, &[7, 8]).unwrap_err();
+    /// assert_eq!(refusal.question(), Some(Question::BlockNumbers));
+    /// // As the list of another kind it is refused.
+    /// let refusal = Tree::build(&g, Kind::Refcount, &list, &[8]).unwrap_err();
+    /// assert_eq!(refusal.question(), Some(Question::ListLength));
+    /// ```
+    pub fn build(
+        g: &Geometry,
+        kind: Kind,
+        list: &[u8],
+        numbers: &[u32],
+    ) -> Result<Vec<u8>, Refusal> {
+        // Where the plan is refused or has another number of blocks, 17 or a
+        // question before it refuses the build, so that nothing has to be lent.
+        let blocks = match Tree::plan(g, kind, list) {
+            Ok(plan) if plan.total == numbers.len() as u64 => numbers.len(),
+            _ => 0,
+        };
+        let mut out = vec![0; blocks * g.blocksize as usize];
+        let built = lent::build(g, kind, list, numbers, &mut out)?;
+        out.truncate(built.bytes);
+        Ok(out)
+    }
+
     /// `walk` with room for so many blocks, each of records alone.
     fn walk_in(
         room: usize,
@@ -235,7 +289,7 @@ fn first_not(counts: &[u8], before: impl Fn(Refcount) -> bool) -> usize {
     low
 }
 
-/// The two lists of a group, edited together.
+/// The reverse map and the shared counts of a group, edited together.
 ///
 /// Its calls size what they lend by themselves, so that none answers 26, and
 /// keep it for the next: a group takes about twice the memory of its lists. A
@@ -324,7 +378,8 @@ impl fmt::Debug for Group {
 }
 
 impl Group {
-    /// The group of two lists; the calls ask whether they are accepted.
+    /// The group of a reverse map and shared counts; the calls ask whether they are
+    /// accepted.
     ///
     /// ```
     /// use kf::{Group, Rmap};
@@ -341,19 +396,19 @@ impl Group {
         Group { map, counts, spare }
     }
 
-    /// Reads both trees of a group, the reverse map first; [`Tree::walk`] says
+    /// Reads the trees of both lists, the reverse map first; [`Tree::walk`] says
     /// how, and gives the blocks of a tree and whether it is linked besides. What
     /// the walks accept are blocks: the lists are asked about by the calls that
     /// edit or build them.
     ///
     /// ```
-    /// use kf::{Geometry, Group, Kind, Rmap, Root};
+    /// use kf::{Geometry, Group, Kind, Rmap, Root, Tree};
     /// let g = Geometry::new(5, 512, 9, 0, [7; 16]);
     /// let mut group = Group::default();
     /// group.take(&Rmap { startblock: 4, blockcount: 2, owner: 131, offset: 0 }).unwrap();
     /// // Block 0 is the tree of the map, block 1 that of the counts.
-    /// let mut image = group.build(&g, Kind::Rmap, &[0]).unwrap();
-    /// image.extend(group.build(&g, Kind::Refcount, &[1]).unwrap());
+    /// let mut image = Tree::build(&g, Kind::Rmap, &group.map, &[0]).unwrap();
+    /// image.extend(Tree::build(&g, Kind::Refcount, &group.counts, &[1]).unwrap());
     /// let (map, counts) = (Root::new(0, 1, 1), Root::new(1, 1, 1));
     /// assert_eq!(Group::walk(&g, &image, map, counts), Ok(group));
     /// // Exchanged they are refused, with words for people.
@@ -368,14 +423,6 @@ impl Group {
         let map = Tree::walk(g, Kind::Rmap, image, map)?;
         let counts = Tree::walk(g, Kind::Refcount, image, counts)?;
         Ok(Group::new(map.records, counts.records))
-    }
-
-    /// The bytes of the list of a kind.
-    fn list(&self, kind: Kind) -> &[u8] {
-        match kind {
-            Kind::Rmap => &self.map,
-            Kind::Refcount => &self.counts,
-        }
     }
 
     /// The records of the reverse map.
@@ -477,44 +524,5 @@ impl Group {
         replace(&mut self.map, &mut self.spare.map, gone.map);
         replace(&mut self.counts, &mut self.spare.counts, gone.counts);
         Ok(free_extents(&self.spare.free[..gone.free]).collect())
-    }
-
-    /// The blocks of a fresh tree of the list of a kind, by level. Questions 1
-    /// and 16.
-    ///
-    /// ```
-    /// use kf::{Geometry, Group, Kind};
-    /// let g = Geometry::new(5, 512, 9, 0, [7; 16]);
-    /// // A tree of no records is one block.
-    /// assert_eq!(Group::default().plan(&g, Kind::Rmap).unwrap().total, 1);
-    /// ```
-    pub fn plan(&self, g: &Geometry, kind: Kind) -> Result<Plan, Refusal> {
-        lent::plan(g, kind, (self.list(kind).len() / kind.record_len()) as u64)
-    }
-
-    /// The blocks of a fresh tree of the list of a kind, one after another, root
-    /// last. `numbers` are their numbers in the group, leaves first, as many as
-    /// [`Group::plan`] says. Questions 1, 3, 19, 20 or 21, 16 and 17.
-    ///
-    /// ```
-    /// use kf::{check_block, Geometry, Group, Kind, Question};
-    /// let g = Geometry::new(5, 512, 9, 0, [7; 16]);
-    /// let group = Group::default();
-    /// let block = group.build(&g, Kind::Refcount, &[8]).unwrap();
-    /// assert!(check_block(&g, Kind::Refcount, 8, 0, &block).is_ok());
-    /// let refusal = group.build(&g, Kind::Refcount, &[7, 8]).unwrap_err();
-    /// assert_eq!(refusal.question(), Some(Question::BlockNumbers));
-    /// ```
-    pub fn build(&self, g: &Geometry, kind: Kind, numbers: &[u32]) -> Result<Vec<u8>, Refusal> {
-        // Where the plan is refused or has another number of blocks, 17 or a
-        // question before it refuses the build, so that nothing has to be lent.
-        let blocks = match self.plan(g, kind) {
-            Ok(plan) if plan.total == numbers.len() as u64 => numbers.len(),
-            _ => 0,
-        };
-        let mut out = vec![0; blocks * g.blocksize as usize];
-        let built = lent::build(g, kind, self.list(kind), numbers, &mut out)?;
-        out.truncate(built.bytes);
-        Ok(out)
     }
 }

@@ -1,11 +1,13 @@
-//! XFS group trees from Rust: the reverse map, the shared counts and the
-//! blocks that hold them. The library behind it is proved; what this crate adds
-//! is said [below](#what-is-proved-and-what-this-crate-is-trusted-for).
+//! XFS group trees from Rust: the reverse map, the shared counts, free space by
+//! block and by size, and the blocks that hold them. The library behind it is
+//! proved; what this crate adds is said
+//! [below](#what-is-proved-and-what-this-crate-is-trusted-for).
 //!
 //! It checks blocks, walks trees, counts the records over each of many blocks,
-//! takes extents and lets them go, says which blocks are free again, and plans
-//! trees and builds them afresh. It reads no superblock or group header, keeps no
-//! cache and writes no image: its caller does.
+//! takes extents and lets them go, says which blocks are free again and whether
+//! both free-space trees hold the same extents, and plans trees and builds them
+//! afresh. It reads no superblock or group header, keeps no cache and writes no
+//! image: its caller does.
 //!
 //! # Building
 //!
@@ -26,11 +28,11 @@
 //!
 //! # A group, from its trees and back
 //!
-//! A [`Group`] has the two lists of a group in vectors, and sizes what its calls
-//! need by itself.
+//! A [`Group`] has the reverse map and the shared counts of a group in vectors,
+//! and sizes what its calls need by itself.
 //!
 //! ```
-//! use kf::{FreeExtent, Geometry, Group, Kind, Rmap, Root};
+//! use kf::{FreeExtent, Geometry, Group, Kind, Rmap, Root, Tree};
 //! # use std::error::Error;
 //! # fn main() -> Result<(), Box<dyn Error>> {
 //! // From the volume's superblock; group 0.
@@ -44,9 +46,10 @@
 //!
 //! // Build both trees and store their blocks; each of the two is one block here.
 //! let mut image = vec![0; 64 * 512];
-//! for (kind, number) in [(Kind::Rmap, 5), (Kind::Refcount, 6)] {
-//!     assert_eq!(group.plan(&g, kind)?.total, 1);
-//!     let block = group.build(&g, kind, &[number])?;
+//! let trees = [(Kind::Rmap, &group.map, 5), (Kind::Refcount, &group.counts, 6)];
+//! for (kind, list, number) in trees {
+//!     assert_eq!(Tree::plan(&g, kind, list)?.total, 1);
+//!     let block = Tree::build(&g, kind, list, &[number])?;
 //!     image[512 * number as usize..][..512].copy_from_slice(&block);
 //! }
 //!
@@ -70,10 +73,14 @@
 //! # }
 //! ```
 //!
-//! The folder `examples` has five programs on trees of real volumes:
+//! A [`FreeSpace`] has the free extents of a group, as both free-space trees hold
+//! them.
+//!
+//! The folder `examples` has six programs on trees of real volumes:
 //! `check_block`, `walk_tree`, `holders` (how many hold each of many blocks),
-//! `retire` (lets all extents of an owner go and builds both trees afresh) and
-//! `all_groups` (on all cores).
+//! `free_space` (whether both free-space trees hold the same extents, and what is
+//! free), `retire` (lets all extents of an owner go and builds the reverse map and
+//! the shared counts afresh) and `all_groups` (on all cores).
 //!
 //! ```sh
 //! cargo run --example retire data/v5-1024-small.case 81986
@@ -84,19 +91,20 @@
 //! A list of records is its bytes as on disk ([`RMAP`] of them for a
 //! reverse-map record, [`REFCOUNT`] for a record of the shared counts,
 //! [`FREE_EXTENT`] for a free extent); [`rmaps`], [`refcounts`] and
-//! [`free_extents`] read it. Beside [`Group`] and [`Tree`] stand the calls of
-//! the library as they are: such a call reads the lists that it is given and
-//! writes into memory that the caller lends; it takes none of its own.
+//! [`free_extents`] read it. Beside [`Group`], [`FreeSpace`] and [`Tree`] stand
+//! the calls of the library as they are: such a call reads the lists that it is
+//! given and writes into memory that the caller lends; it takes none of its own.
 //!
 //! | over vectors | on lent memory |
 //! |---|---|
-//! | [`Group::walk`], [`Tree::walk`] | [`walk`], [`walk_linked`] |
+//! | [`Group::walk`], [`FreeSpace::walk`], [`Tree::walk`] | [`walk`], [`walk_linked`] |
 //! | [`Tree::lookup`] | [`lookup`] |
+//! | [`Tree::plan`], [`Tree::build`] | [`plan`], [`build`] |
 //! | [`Group::take`] | [`insert`] |
 //! | [`Group::take_held`] | [`take_held`] |
 //! | [`Group::let_go`] | [`let_go`] |
-//! | [`Group::plan`], [`Group::build`] | [`plan`], [`build`] |
-//! | | [`check_block`], [`check_rmaps`], [`check_refcounts`] |
+//! | [`FreeSpace::same_extents`] | [`same_extents`] |
+//! | | [`check_block`], [`check_rmaps`], [`check_refcounts`], [`check_by_block`], [`check_by_size`] |
 //! | | [`insert_shared`], [`remove`], [`release`]: one list of the two |
 //! | | [`crc32c`], [`crc32c_singly`] |
 //!
@@ -130,22 +138,26 @@
 //!   [`FreeExtent`], [`Records`]);
 //! - in [`Group`] and [`Tree`], to lend as much as the law says, to replace a
 //!   list only where the call was done, and to cut the results to their lengths;
+//! - to sort the extents that a [`FreeSpace`] is made of;
 //! - for the texts of [`Question`].
 //!
 //! Under both lie what made the archives (the Rattle kit), the Rust compiler
 //! and the linker. That the geometry, the root and the image are those of the
-//! group is the caller's to see to, and so is that the two lists agree: what a let
-//! go says is free goes by the shared counts, and no call asks whether a shared
-//! record of n owners lies over a block exactly where n records of the reverse
-//! map, two or more, do. Takes and lets go keep lists that agree so (that is
-//! proved), [`insert_shared`], [`remove`] and [`release`] by themselves do not. The
-//! example `retire` looks whether a block that it was told is free is held.
+//! group is the caller's to see to, and so is that the reverse map and the shared
+//! counts agree: what a let go says is free goes by the counts, and no call asks
+//! whether a shared record of n owners lies over a block exactly where n records
+//! of the reverse map, two or more, do. Takes and lets go keep lists that agree so
+//! (that is proved), [`insert_shared`], [`remove`] and [`release`] by themselves do
+//! not. The example `retire` looks whether a block that it was told is free is
+//! held. Nor does a call ask whether the free extents are the blocks that no
+//! record of the reverse map lies over.
 
 #![no_std]
 #![warn(missing_docs)]
 
 extern crate alloc;
 
+mod free_space;
 mod geometry;
 mod group;
 mod lent;
@@ -153,12 +165,14 @@ mod question;
 pub mod raw;
 mod records;
 
+pub use free_space::FreeSpace;
 pub use geometry::{Geometry, Kind};
 pub use group::{Group, LookedUp, Root, Tree};
 pub use lent::{
-    build, check_block, check_refcounts, check_rmaps, crc32c, crc32c_singly, insert, insert_shared,
-    let_go, lookup, plan, release, remove, take_held, walk, walk_linked, Built, Header, Lent,
-    LetGone, NewLists, Plan, Released, TakenHeld, Walked, NO_SIBLING,
+    build, check_block, check_by_block, check_by_size, check_refcounts, check_rmaps, crc32c,
+    crc32c_singly, insert, insert_shared, let_go, lookup, plan, release, remove, same_extents,
+    take_held, walk, walk_linked, Built, Header, Lent, LetGone, NewLists, Plan, Released,
+    TakenHeld, Walked, NO_SIBLING,
 };
 pub use question::{Question, Refusal, Values, WalkRefusal};
 pub use records::{

@@ -71,7 +71,7 @@ questions! {
     18 Output "the output is shorter than the planned blocks",
     19 ListLength "the length of the list is not a multiple of its record's",
     20 RmapOrder "a record of the reverse map is bad or out of order",
-    21 RefcountOrder "a record of the shared counts is bad or out of order",
+    21 ExtentOrder "a record of the shared counts or a free extent is bad or out of order",
     22 Extent "the extent is empty, ends past block 2,147,483,648 or ends past file offset 2^54",
     23 Overlap "a held block or a clashing record is in the way of the take",
     24 Missing "no record of the extent's owner and flags contains it",

@@ -6,8 +6,8 @@
 //! the two of CRC32C answers 0 where it was done, else the number of the first
 //! question that failed. `said: *mut [u64; 4]` is written whole, refused or
 //! not. `levels: *mut [u64; 9]` of a plan is written whole, or by a refusal not
-//! at all. `kind` is [`KF_KIND_RMAP`] or [`KF_KIND_REFCOUNT`]; pass no other:
-//! today any other number is taken for the second.
+//! at all. `kind` is one of the four `KF_KIND_..`; pass no other: today any
+//! other number is taken for [`KF_KIND_REFCOUNT`].
 //!
 //! # Safety
 //!
@@ -45,6 +45,10 @@
 pub const KF_KIND_RMAP: u32 = 0;
 /// The kind of the shared counts' tree.
 pub const KF_KIND_REFCOUNT: u32 = 1;
+/// The kind of the tree of free space by block.
+pub const KF_KIND_BY_BLOCK: u32 = 2;
+/// The kind of the tree of free space by size.
+pub const KF_KIND_BY_SIZE: u32 = 3;
 
 #[allow(clippy::too_many_arguments)]
 extern "C" {
@@ -80,6 +84,37 @@ extern "C" {
     /// The [duties of a caller](self#duties-of-a-caller).
     /// Reads `list`; writes nothing.
     pub fn kf_check_refcounts(list: *const u8, list_len: usize) -> u32;
+
+    /// Are they accepted free extents by block?
+    ///
+    /// # Safety
+    ///
+    /// The [duties of a caller](self#duties-of-a-caller).
+    /// Reads `list`; writes nothing.
+    pub fn kf_check_by_block(list: *const u8, list_len: usize) -> u32;
+
+    /// Are they accepted free extents by size?
+    ///
+    /// # Safety
+    ///
+    /// The [duties of a caller](self#duties-of-a-caller).
+    /// Reads `list`; writes nothing.
+    pub fn kf_check_by_size(list: *const u8, list_len: usize) -> u32;
+
+    /// Do the list by block and the list by size hold the same extents, equally
+    /// often?
+    ///
+    /// # Safety
+    ///
+    /// The [duties of a caller](self#duties-of-a-caller).
+    /// Reads `by_block` and `by_size`; writes `said`.
+    pub fn kf_same_extents(
+        by_block: *const u8,
+        by_block_len: usize,
+        by_size: *const u8,
+        by_size_len: usize,
+        said: *mut [u64; 4],
+    ) -> u32;
 
     /// Is it block `block` of the group's tree, at level `level`?
     ///

@@ -155,7 +155,7 @@ impl Refcount {
     }
 }
 
-/// Blocks that are free again.
+/// Free blocks: a record of the free-space trees, or blocks that are free again.
 ///
 /// ```
 /// use kf::FreeExtent;
@@ -172,7 +172,7 @@ pub struct FreeExtent {
 }
 
 impl FreeExtent {
-    /// The free extent that the bytes are.
+    /// The free extent that the bytes are, as on disk.
     pub fn from_bytes(bytes: &[u8; FREE_EXTENT]) -> FreeExtent {
         FreeExtent {
             startblock: u32::from_be_bytes(field(bytes, 0)),
@@ -180,7 +180,7 @@ impl FreeExtent {
         }
     }
 
-    /// The bytes of the free extent.
+    /// The bytes of the free extent, as on disk.
     pub fn to_bytes(&self) -> [u8; FREE_EXTENT] {
         let mut bytes = [0; FREE_EXTENT];
         bytes[..4].copy_from_slice(&self.startblock.to_be_bytes());
@@ -292,7 +292,8 @@ pub fn refcounts(list: &[u8]) -> Records<'_, Refcount> {
     }
 }
 
-/// The free extents that a release or a let go wrote.
+/// The free extents of a list: of a free-space tree, or what a release or a let
+/// go wrote.
 ///
 /// ```
 /// let free = [0, 0, 0, 8, 0, 0, 0, 2];

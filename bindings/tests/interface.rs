@@ -696,6 +696,8 @@ fn the_constants_are_the_crates() {
     let expected = [
         ("KF_KIND_RMAP", kf::raw::KF_KIND_RMAP as u64),
         ("KF_KIND_REFCOUNT", kf::raw::KF_KIND_REFCOUNT as u64),
+        ("KF_KIND_BY_BLOCK", kf::raw::KF_KIND_BY_BLOCK as u64),
+        ("KF_KIND_BY_SIZE", kf::raw::KF_KIND_BY_SIZE as u64),
         ("KF_RMAP_BYTES", kf::RMAP as u64),
         ("KF_REFCOUNT_BYTES", kf::REFCOUNT as u64),
         ("KF_FREE_EXTENT_BYTES", kf::FREE_EXTENT as u64),

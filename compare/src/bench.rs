@@ -1,14 +1,17 @@
 //! Both sides on the same inputs in one run, from bytes to bytes, in processor
 //! time of the calling thread, the shortest of several runs.
 
+use crate::free;
+use crate::kinds::{self, Kind};
 use crate::library::{self, Edit, Walk};
 use crate::links;
 use crate::vectors as layer;
+use oracle::alloc_btree::FreeExtent;
 use oracle::refusal::Outcome;
 use oracle::rmap::Rmap;
 use oracle::sample::{self, Image};
 use oracle::timing::best;
-use oracle::{bare, paper, set_backend, Backend, Geometry, Tree};
+use oracle::{bare, set_backend, Backend, Geometry};
 use std::time::Duration;
 
 const TIMES: usize = 15;
@@ -158,7 +161,7 @@ fn tree_forms(rows: &mut Vec<Forms>) {
             size: format!("{n} records"),
             words: best(TIMES, || s.build_library(&mut out)).0,
             singly: None,
-            original: by_forms(|| bare::build(&s.g, Tree::Rmap, &s.list, &s.image.blocks)),
+            original: by_forms(|| s.build_original()),
         });
         assert!(out == s.image.bytes);
     }
@@ -185,30 +188,49 @@ fn print_forms(rows: &[Forms]) {
     }
 }
 
-/// A reverse map of so many records, at a block size.
+/// A tree of so many records, at a block size.
 struct Sample {
     size: usize,
     g: Geometry,
+    kind: Kind,
     list: Vec<u8>,
     image: Image,
     leaves: usize,
 }
 
 fn tree_image(n: usize, size: usize) -> Sample {
-    tree_of(&sample::rmaps(n), size)
+    rmap_tree(&sample::rmaps(n), size)
 }
 
-fn tree_of(records: &[Rmap], size: usize) -> Sample {
-    let n = records.len();
-    let list = bare::rmap_bytes(records);
-    let g = sample::geometry_for(Tree::Rmap, size as u64, n as u64);
-    let mut image = sample::image(&g, Tree::Rmap, &list);
-    let plan = paper::plan(&g, Tree::Rmap, n as u64).accepted();
-    let plan = plan.expect("a plan");
-    links::link(&g, &plan, &image.blocks, &mut image.bytes);
+fn rmap_tree(records: &[Rmap], size: usize) -> Sample {
+    tree_of(Kind::RMAP, 5, bare::rmap_bytes(records), size)
+}
+
+/// The list laid out over blocks 0, 1, 2 and so on, in a group that holds no
+/// others.
+fn tree_of(kind: Kind, version: u64, list: Vec<u8>, size: usize) -> Sample {
+    let mut g = Geometry {
+        version,
+        agno: 3,
+        meta_uuid: *b"0123456789abcdef",
+        ..Geometry::v5(size as u64)
+    };
+    let n = (list.len() / kind.record_len()) as u64;
+    let plan = kinds::plan(&g, kind, n).accepted().expect("a plan");
+    let total = plan.iter().sum::<u64>() as u32;
+    g.agblocks = total;
+    let blocks: Vec<u32> = (0..total).collect();
+    let bytes = links::build(&g, kind, &list, &blocks, usize::MAX);
+    let image = Image {
+        bytes: bytes.accepted().expect("a tree"),
+        root: total - 1,
+        levels: plan.len() as u32,
+        blocks,
+    };
     Sample {
         size,
         g,
+        kind,
         list,
         image,
         leaves: plan[0] as usize,
@@ -223,14 +245,14 @@ impl Sample {
     fn check_library(&self) {
         let g = library::g(&self.g);
         for i in 0..self.leaves {
-            let said = library::check_block(&g, 0, i as u32, 0, self.leaf(i));
+            let said = library::check_block(&g, self.kind.number(), i as u32, 0, self.leaf(i));
             assert_eq!(said.number, 0);
         }
     }
 
     fn check_original(&self) {
         let sb = self.g.superblock();
-        let shape = oracle::rmap::shape();
+        let shape = self.kind.shape();
         for i in 0..self.leaves {
             let b = self.leaf(i);
             let r = oracle::ag_btree::parse_block(b, &sb, shape, self.g.agno, i as u32, 0);
@@ -247,7 +269,7 @@ impl Sample {
         let r = library::walk(
             w,
             &library::g(&self.g),
-            0,
+            self.kind.number(),
             &im.bytes,
             im.root,
             im.levels,
@@ -261,15 +283,20 @@ impl Sample {
 
     fn walk_original(&self) -> bare::WalkAnswer {
         let im = &self.image;
-        let a = bare::walk_blocks(&self.g, Tree::Rmap, &im.bytes, im.root, im.levels);
+        let a = kinds::bare_walk(&self.g, self.kind, &im.bytes, im.root, im.levels);
         assert!(a.outcome.number().is_none());
         a
     }
 
     fn build_library(&self, out: &mut [u8]) {
         let g = library::g(&self.g);
-        let said = library::build(&g, 0, &self.list, &self.image.blocks, out);
+        let kind = self.kind.number();
+        let said = library::build(&g, kind, &self.list, &self.image.blocks, out);
         assert_eq!(said.number, 0);
+    }
+
+    fn build_original(&self) -> Outcome<Vec<u8>> {
+        kinds::bare_build(&self.g, self.kind, &self.list, &self.image.blocks)
     }
 }
 
@@ -283,7 +310,7 @@ struct Lent {
 
 impl Lent {
     fn of(s: &Sample) -> Lent {
-        let cap = paper::node_capacity(&s.g, Tree::Rmap) as usize;
+        let cap = kinds::node_capacity(&s.g, s.kind);
         Lent {
             stack: vec![0; 2 * s.image.levels as usize * cap],
             scratch: vec![0; s.image.blocks.len()],
@@ -294,8 +321,7 @@ impl Lent {
 }
 
 fn trees(rows: &mut Vec<Row>) {
-    let sizes = [1_000_000, 2_000_000];
-    let made = sizes.map(|n| tree_image(n, 4096));
+    let made = [1_000_000, 2_000_000].map(|n| tree_image(n, 4096));
     for s in &made {
         rows.push(row(
             "block check",
@@ -304,11 +330,16 @@ fn trees(rows: &mut Vec<Row>) {
             || s.check_original(),
         ));
     }
-    for (n, s) in sizes.iter().zip(&made) {
+    walks_and_builds("reverse map", &made, rows);
+}
+
+fn walks_and_builds(what: &str, made: &[Sample], rows: &mut Vec<Row>) {
+    let records = |s: &Sample| format!("{} records", s.list.len() / s.kind.record_len());
+    for s in made {
         let mut lent = Lent::of(s);
         rows.push(row(
-            "walk, reverse map at 4,096",
-            format!("{n} records"),
+            &format!("walk, {what} at {}", apart(s.size)),
+            records(s),
             || s.walk_library(&mut lent),
             || s.walk_original(),
         ));
@@ -316,15 +347,76 @@ fn trees(rows: &mut Vec<Row>) {
         let a = a.expect("the original walks it");
         assert!(lent.records == s.list && lent.records == a.records && lent.blocks == a.blocks);
     }
-    for (n, s) in sizes.iter().zip(&made) {
+    for s in made {
         let mut out = vec![0; s.image.bytes.len()];
         rows.push(row(
-            "build, reverse map at 4,096",
-            format!("{n} records"),
+            &format!("build, {what} at {}", apart(s.size)),
+            records(s),
             || s.build_library(&mut out),
-            || bare::build(&s.g, Tree::Rmap, &s.list, &s.image.blocks),
+            || s.build_original(),
         ));
         assert!(out == s.image.bytes);
+    }
+}
+
+/// Free extents, no two of which touch: extent i at block (most + 1) i, 1 to `most`
+/// long.
+fn free_list(n: usize, most: u32) -> Vec<FreeExtent> {
+    (0..n)
+        .map(|i| FreeExtent {
+            startblock: (most + 1) * i as u32,
+            blockcount: 1 + (i.wrapping_mul(0x9E37_79B9) >> 16) as u32 % most,
+        })
+        .collect()
+}
+
+/// Trees of free space by block.
+fn free_trees(rows: &mut Vec<Row>) {
+    let sizes = [1_000_000, 2_000_000];
+    for version in [5, 4] {
+        let made = sizes.map(|n| {
+            let list = bare::free_bytes(&free_list(n, 7));
+            tree_of(Kind::BY_BLOCK, version, list, 4096)
+        });
+        walks_and_builds(&format!("free space, version {version}"), &made, rows);
+    }
+}
+
+/// Whether two lists hold the same extents, by turns with sorting a copy of the one
+/// by size and holding it against the other, in Rust. The original has no such call.
+fn sameness() {
+    println!("| the same extents | library, ms | sorted copy, ms | ratio | growth |");
+    println!("|---|---:|---:|---:|---:|");
+    let mut last = None;
+    let few = [(1_000_000, 7), (2_000_000, 7)];
+    let many = [(500_000, 2000), (1_000_000, 2000)];
+    for (n, most) in few.into_iter().chain(many) {
+        let mut list = free_list(n, most);
+        let by_block = bare::free_bytes(&list);
+        list.sort_by_key(|x| (x.blockcount, x.startblock));
+        let by_size = bare::free_bytes(&list);
+        let mut least = [Duration::MAX; 2];
+        for _ in 0..TIMES {
+            let (d, said) = best(1, || library::same_extents(&by_block, &by_size));
+            assert_eq!((said.number, said.figures), (0, [1, 0, 0, 0]));
+            least[0] = least[0].min(d);
+            let (d, same) = best(1, || {
+                let mut sorted = free::extents(&by_size);
+                sorted.sort_unstable();
+                sorted == free::extents(&by_block)
+            });
+            assert!(same);
+            least[1] = least[1].min(d);
+        }
+        let [call, copy] = least.map(ms);
+        let growth = last.filter(|&(_, m)| m == most);
+        let growth = growth.map_or(String::new(), |(l, _)| format!("{:.2}", call / l));
+        println!(
+            "| {n} in each list, of {} sizes | {call:.3} | {copy:.3} | {:.2} | {growth} |",
+            apart(most as usize),
+            call / copy
+        );
+        last = Some((call, most));
     }
 }
 
@@ -441,7 +533,7 @@ fn lookups() {
         offset: 0,
     };
     let records: Vec<Rmap> = (1..).map(all).take(n).collect();
-    let s = tree_of(&records, size);
+    let s = rmap_tree(&records, size);
     print_lookup("all records over all", &s, &asked(2));
 }
 
@@ -637,14 +729,14 @@ fn tree_vectors(n: usize, size: usize) {
     assert!(tree.records == lent.records && tree.blocks == lent.blocks && tree.linked);
     print_vectors("`walk_linked`, `Tree::walk`", &records, times);
 
-    let group = kf::Group::new(s.list.clone(), vec![]);
+    let build = || kf::Tree::build(&g, kind, &s.list, &im.blocks);
     let mut out = vec![0; im.bytes.len()];
     let times = by_turns(
         || once(|| s.build_library(&mut out)),
-        || once(|| group.build(&g, kind, &im.blocks).is_ok()),
+        || once(|| build().is_ok()),
     );
-    assert!(group.build(&g, kind, &im.blocks).expect("blocks") == out);
-    print_vectors("`build`, `Group::build`", &records, times);
+    assert!(build().expect("blocks") == out);
+    print_vectors("`build`, `Tree::build`", &records, times);
 }
 
 fn edit_vectors(n: usize) {
@@ -697,6 +789,16 @@ fn edit_vectors(n: usize) {
 /// A part of the table of calls.
 type Part = fn(&mut Vec<Row>);
 
+/// The tables beside it.
+const OTHER_PARTS: [&str; 6] = [
+    "forms",
+    "linked",
+    "lookups",
+    "vectors",
+    "free_trees",
+    "same",
+];
+
 /// All of it, or the parts named.
 pub fn bench(words: &[String]) {
     let parts: [(&str, Part); 5] = [
@@ -708,8 +810,7 @@ pub fn bench(words: &[String]) {
     ];
     for w in words {
         assert!(
-            ["forms", "linked", "lookups", "vectors"].contains(&w.as_str())
-                || parts.iter().any(|(n, _)| n == w),
+            OTHER_PARTS.contains(&w.as_str()) || parts.iter().any(|(n, _)| n == w),
             "no part {w}"
         );
     }
@@ -739,5 +840,13 @@ pub fn bench(words: &[String]) {
     }
     if wanted("vectors") {
         vectors();
+    }
+    if wanted("free_trees") {
+        let mut rows = Vec::new();
+        free_trees(&mut rows);
+        print(&rows);
+    }
+    if wanted("same") {
+        sameness();
     }
 }

@@ -1,13 +1,14 @@
 //! CRC32C, and the check of single blocks.
 
 use crate::edits::{expect, same};
+use crate::kinds::{self, header_len, Kind};
 use crate::lent::hex;
 use crate::library;
 use crate::links;
 use crate::tally::{differ, Tally};
 use oracle::ag_btree::reach::stamp;
 use oracle::sample::Random;
-use oracle::{bare, paper, Geometry, Tree};
+use oracle::{bare, Geometry};
 
 type Form = fn(&[u8]) -> u32;
 
@@ -89,9 +90,9 @@ pub fn geometry(r: &mut Random, bad: bool) -> Geometry {
     g
 }
 
-/// Put the check into a version 5 block.
-pub fn seal(b: &mut [u8]) {
-    if b.len() >= 56 {
+/// Put the check into a block; on version 4 it has none.
+pub fn seal(g: &Geometry, b: &mut [u8]) {
+    if g.version == 5 && b.len() >= 56 {
         let crc = bare::block_crc(b);
         b[52..56].copy_from_slice(&crc.to_le_bytes());
     }
@@ -100,23 +101,23 @@ pub fn seal(b: &mut [u8]) {
 /// The checks that are noted by the siblings handed back.
 const SIBLINGS: &str = "check_block, of those done";
 
-fn one(g: &Geometry, tree: Tree, block: u32, level: u16, b: &[u8], tally: &mut Tally) {
+fn one(g: &Geometry, kind: Kind, block: u32, level: u16, b: &[u8], tally: &mut Tally) {
     let input = || {
         format!(
-            "{g:?} {tree:?} block {block} level {level} bytes {}",
+            "{g:?} {kind:?} block {block} level {level} bytes {}",
             hex(b)
         )
     };
-    let want = paper::parse_block(g, tree, b, block, level);
-    // Any number but 0 is the counts.
-    let kind = match tree {
-        Tree::Rmap => 0,
-        Tree::Refcount => 1 + (block & 1) * 0xFFFF_FFFE,
+    let want = kinds::parse_block(g, kind, b, block, level);
+    // Any number above 3 is the counts.
+    let number = match kind {
+        Kind::REFCOUNT if block & 1 == 1 => u32::MAX,
+        _ => kind.number(),
     };
-    let got = library::check_block(&library::g(g), kind, block, level, b);
+    let got = library::check_block(&library::g(g), number, block, level, b);
     let due = expect(&want, |h| header_figures(h, b));
     same("check_block", &got, due, &input);
-    tally.add("check_block", got.number);
+    tally.add_tree("check_block", kind, g, got.number);
     if got.number == 0 {
         let how = match links::named(b) {
             [links::NONE, links::NONE] => "no sibling named",
@@ -140,7 +141,7 @@ pub fn header_figures(h: &bare::Header, b: &[u8]) -> [u64; 4] {
 
 /// A block with its number and level: stamped, then mostly damaged. It has
 /// `len` bytes, or a few.
-pub fn block(r: &mut Random, g: &Geometry, tree: Tree, len: usize) -> (u32, u16, Vec<u8>) {
+pub fn block(r: &mut Random, g: &Geometry, kind: Kind, len: usize) -> (u32, u16, Vec<u8>) {
     let block = r.pick(&[0, 1, 2, 77, u32::MAX, u32::MAX - 1]);
     let level = r.pick(&[0, 0, 1, 1, 2, 8, 9, 65535]);
     let len = match r.below(12) {
@@ -149,13 +150,12 @@ pub fn block(r: &mut Random, g: &Geometry, tree: Tree, len: usize) -> (u32, u16,
         2 => len + 1,
         _ => len,
     };
-    let header = if g.version == 5 { 56 } else { 16 };
     let place = if level == 0 {
-        tree.record_len()
+        kind.record_len()
     } else {
-        tree.entry_len()
+        kind.entry_len()
     };
-    let capacity = len.saturating_sub(header) / place;
+    let capacity = len.saturating_sub(header_len(g)) / place;
     let mut b = r.bytes(1).repeat(len);
     let records = match r.below(6) {
         0 => capacity,
@@ -163,19 +163,24 @@ pub fn block(r: &mut Random, g: &Geometry, tree: Tree, len: usize) -> (u32, u16,
         2 => 65535,
         _ => r.below(capacity as u64 + 1) as usize,
     };
-    if len >= 56 {
-        let stamped = Geometry { version: 5, ..*g };
+    // An older tree, which version 4 does not have, is stamped as on version 5.
+    let shape = kind.shape();
+    let (version, magic) = match (g.version, shape.magic_v4) {
+        (4, Some(magic)) => (4, magic),
+        _ => (5, shape.magic_v5),
+    };
+    let stamped = Geometry { version, ..*g };
+    if len >= header_len(&stamped) {
         let at = stamped.superblock();
         let n = records.min(65535) as u16;
-        stamp(&mut b, &at, tree.shape(), g.agno, block, level, n);
+        stamp(&mut b, &at, shape, g.agno, block, level, n);
         // Siblings of any number.
         if r.below(2) == 0 {
             b[8..16].copy_from_slice(&r.bytes(8));
         }
-        seal(&mut b);
+        seal(&stamped, &mut b);
     } else if len >= 8 {
-        let magic = tree.shape().magic_v5.to_be_bytes();
-        b[..4].copy_from_slice(&magic);
+        b[..4].copy_from_slice(&magic.to_be_bytes());
         b[4..6].copy_from_slice(&level.to_be_bytes());
     }
     // Damage: anywhere, or a field, with the check put right again.
@@ -185,9 +190,9 @@ pub fn block(r: &mut Random, g: &Geometry, tree: Tree, len: usize) -> (u32, u16,
             b[at] ^= 1 << r.below(8);
         }
         1..=5 if len > 0 => {
-            let at = r.below(56.min(len as u64)) as usize;
+            let at = r.below(header_len(&stamped).min(len) as u64) as usize;
             b[at] = r.next() as u8;
-            seal(&mut b);
+            seal(&stamped, &mut b);
         }
         _ => (),
     }
@@ -195,20 +200,40 @@ pub fn block(r: &mut Random, g: &Geometry, tree: Tree, len: usize) -> (u32, u16,
 }
 
 pub fn blocks(r: &mut Random, scale: u64, tally: &mut Tally) {
-    for i in 0..150_000 * scale {
+    blocks_of(r, &Kind::OLDER, 150_000 * scale, tally);
+}
+
+pub fn blocks_of(r: &mut Random, of: &[Kind], times: u64, tally: &mut Tally) {
+    for i in 0..times {
         let bad = r.below(40) == 0;
-        let g = geometry(r, bad);
-        let tree = r.pick(&Tree::BOTH);
+        let mut g = geometry(r, bad);
+        let kind = r.pick(of);
+        kinds::some_version(r, kind, &mut g);
         let len = match g.block_size {
             n if n > 4096 || i % 100 == 0 => 65536,
             n => n as usize,
         };
-        let (block, level, b) = block(r, &g, tree, len);
-        one(&g, tree, block, level, &b, tally);
+        let (block, level, b) = block(r, &g, kind, len);
+        one(&g, kind, block, level, &b, tally);
         if r.below(10) == 0 {
-            let other = r.pick(&Tree::BOTH);
+            let other = r.pick(of);
             one(&g, other, block ^ 1, level ^ 1, &b, tally);
         }
     }
     tally.met_both(SIBLINGS);
+}
+
+/// Blocks of every kind, read as each kind on each version.
+pub fn each_as_each(r: &mut Random, times: u64, tally: &mut Tally) {
+    for _ in 0..times {
+        let mut g = geometry(r, false);
+        let kind = r.pick(&Kind::ALL);
+        kinds::some_version(r, kind, &mut g);
+        let (block, level, b) = block(r, &g, kind, 512);
+        for version in [4, 5] {
+            for other in Kind::ALL {
+                one(&Geometry { version, ..g }, other, block, level, &b, tally);
+            }
+        }
+    }
 }

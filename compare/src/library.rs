@@ -2,7 +2,7 @@
 
 use kf::raw;
 use oracle::rmap::Rmap;
-use oracle::{Geometry, Tree};
+use oracle::Geometry;
 
 pub struct Said {
     pub number: u32,
@@ -39,13 +39,6 @@ pub fn g(g: &Geometry) -> G {
     }
 }
 
-pub fn kind(t: Tree) -> u32 {
-    match t {
-        Tree::Rmap => 0,
-        Tree::Refcount => 1,
-    }
-}
-
 pub fn crc32c(b: &[u8]) -> u32 {
     kf::crc32c(b)
 }
@@ -61,6 +54,26 @@ pub fn check_rmaps(b: &[u8]) -> u32 {
 
 pub fn check_refcounts(b: &[u8]) -> u32 {
     unsafe { raw::kf_check_refcounts(b.as_ptr(), b.len()) }
+}
+
+pub fn check_by_block(b: &[u8]) -> u32 {
+    unsafe { raw::kf_check_by_block(b.as_ptr(), b.len()) }
+}
+
+pub fn check_by_size(b: &[u8]) -> u32 {
+    unsafe { raw::kf_check_by_size(b.as_ptr(), b.len()) }
+}
+
+pub fn same_extents(by_block: &[u8], by_size: &[u8]) -> Said {
+    said(|s| unsafe {
+        raw::kf_same_extents(
+            by_block.as_ptr(),
+            by_block.len(),
+            by_size.as_ptr(),
+            by_size.len(),
+            s,
+        )
+    })
 }
 
 pub fn check_block(g: &G, kind: u32, block: u32, level: u16, b: &[u8]) -> Said {

@@ -1,16 +1,17 @@
 //! Neighbours on a level, by their definition: the original writes all ones
 //! for both and looks at neither, so bytes 8 to 15 of a block, and with them
-//! its check, are measured against this module. The last part of the
+//! its check, are measured against this module. The part `links` of the
 //! comparison changes single links.
 
 use crate::blocks::{geometry, seal};
+use crate::kinds::{self, header_len, pointer, Kind};
 use crate::tally::Tally;
 use crate::trees::{self, Room};
 use oracle::ag_btree::reach::stamp;
 use oracle::bare::Walked;
 use oracle::refusal::Outcome;
 use oracle::sample::Random;
-use oracle::{paper, Geometry, Tree};
+use oracle::Geometry;
 
 /// The walks that are noted by what they say of the links.
 pub const LINKED: &str = "walk_linked, of those done";
@@ -42,12 +43,12 @@ pub fn named(b: &[u8]) -> [u32; 2] {
 }
 
 /// Put both into a block, and its check anew.
-fn name(b: &mut [u8], siblings: [u32; 2]) {
+fn name(g: &Geometry, b: &mut [u8], siblings: [u32; 2]) {
     SIDES
         .into_iter()
         .zip(siblings)
         .for_each(|(at, n)| put(b, at, n));
-    seal(b);
+    seal(g, b);
 }
 
 /// The blocks that each block of a level is to name: the one before it and the
@@ -69,7 +70,7 @@ pub fn link(g: &Geometry, plan: &[u64], numbers: &[u32], built: &mut [u8]) {
         for due in neighbours(level) {
             let b = blocks.next().expect("a block of the plan");
             assert_eq!(named(b), [NONE; 2], "the original names none");
-            name(b, due);
+            name(g, b, due);
         }
     }
     assert!(rest.is_empty() && blocks.next().is_none());
@@ -78,14 +79,14 @@ pub fn link(g: &Geometry, plan: &[u64], numbers: &[u32], built: &mut [u8]) {
 /// The original's build, linked.
 pub fn build(
     g: &Geometry,
-    tree: Tree,
+    kind: Kind,
     list: &[u8],
     numbers: &[u32],
     room: usize,
 ) -> Outcome<Vec<u8>> {
-    paper::build(g, tree, list, numbers, room).map(|mut built| {
-        let n = (list.len() / tree.record_len()) as u64;
-        let plan = paper::plan(g, tree, n).accepted().expect("a plan");
+    kinds::build(g, kind, list, numbers, room).map(|mut built| {
+        let n = (list.len() / kind.record_len()) as u64;
+        let plan = kinds::plan(g, kind, n).accepted().expect("a plan");
         link(g, &plan, numbers, &mut built);
         built
     })
@@ -114,7 +115,7 @@ fn relink(g: &Geometry, image: &mut [u8], list: &[u32]) {
     for level in levels(g, image, list) {
         for (&n, due) in level.iter().zip(neighbours(level)) {
             let b = &mut image[n as usize * size..][..size];
-            name(b, due);
+            name(g, b, due);
         }
     }
 }
@@ -122,7 +123,7 @@ fn relink(g: &Geometry, image: &mut [u8], list: &[u32]) {
 /// A tree in an image, with room for its walk.
 struct Stored {
     g: Geometry,
-    tree: Tree,
+    kind: Kind,
     image: Vec<u8>,
     /// Its blocks, leaves first.
     at: Vec<u32>,
@@ -131,28 +132,28 @@ struct Stored {
 }
 
 /// A built tree of n records; none where the geometry is refused.
-fn stored(r: &mut Random, g: Geometry, tree: Tree, n: usize, tally: &mut Tally) -> Option<Stored> {
+fn stored(r: &mut Random, g: Geometry, kind: Kind, n: usize, tally: &mut Tally) -> Option<Stored> {
     let size = g.block_size as usize;
-    let list = trees::list(r, tree, n);
-    let plan = paper::plan(&g, tree, n as u64).accepted()?;
+    let list = trees::list(r, kind, n);
+    let plan = kinds::plan(&g, kind, n as u64).accepted()?;
     let total = plan.iter().sum::<u64>() as usize;
     let most = total + r.below(4) as usize;
     let at = trees::numbers(r, total, most);
-    let built = trees::one_build(&g, tree, &list, &at, total * size, tally)?;
+    let built = trees::one_build(&g, kind, &list, &at, total * size, tally)?;
     let mut image = vec![0; most * size];
     for (&n, b) in at.iter().zip(built.chunks_exact(size)) {
         image[n as usize * size..][..size].copy_from_slice(b);
     }
     let levels = plan.len() as u32;
     let room = Room {
-        stack: 2 * plan.len() * paper::node_capacity(&g, tree) as usize,
+        stack: 2 * plan.len() * kinds::node_capacity(&g, kind),
         scratch: total,
         blocks: total,
         bytes: list.len(),
     };
     Some(Stored {
         g,
-        tree,
+        kind,
         image,
         at,
         levels,
@@ -166,11 +167,19 @@ impl Stored {
         &mut self.image[n as usize * size..][..size]
     }
 
+    /// Change a number of a block, and put its check right.
+    fn change(&mut self, n: u32, at: usize, to: u32) {
+        let g = self.g;
+        let b = self.block(n);
+        put(b, at, to);
+        seal(&g, b);
+    }
+
     /// Both walks; what they gave, where they were done.
     fn walk(&self, tally: &mut Tally) -> Option<(Walked, bool)> {
         let root = *self.at.last().expect("a root");
-        let Stored { g, tree, image, .. } = self;
-        trees::one_walk(g, *tree, image, root, self.levels, self.room, tally)
+        let Stored { g, kind, image, .. } = self;
+        trees::one_walk(g, *kind, image, root, self.levels, self.room, tally)
     }
 }
 
@@ -187,13 +196,11 @@ fn single_links(r: &mut Random, t: &mut Stored, blocks: &[u32], tally: &mut Tall
                 if to == was {
                     continue;
                 }
-                put(t.block(n), at, to);
-                seal(t.block(n));
+                t.change(n, at, to);
                 let (walked, linked) = t.walk(tally).expect("a link is no question of the walk");
                 assert!(walked == whole && !linked, "block {n}: {was} made {to}");
             }
-            put(t.block(n), at, was);
-            seal(t.block(n));
+            t.change(n, at, was);
         }
     }
 }
@@ -201,18 +208,16 @@ fn single_links(r: &mut Random, t: &mut Stored, blocks: &[u32], tally: &mut Tall
 /// Two pointers of a node, exchanged: the order in which the walk meets the
 /// blocks is another, and the tree is linked once its links go by that.
 fn other_order(r: &mut Random, t: &mut Stored, tally: &mut Tally) {
-    let (g, tree) = (t.g, t.tree);
+    let (g, kind) = (t.g, t.kind);
     let root = *t.at.last().expect("a root");
-    let keys = paper::node_capacity(&g, tree) as usize * (tree.entry_len() - 4);
     let b = t.block(root);
     let n = u64::from(b[6]) * 256 + u64::from(b[7]);
-    let pointer = |i: u64| 56 + keys + 4 * i as usize;
+    let pointer = |i: u64| pointer(&g, kind, i as usize);
     let i = r.below(n);
     let j = (i + 1 + r.below(n - 1)) % n;
     let (x, y) = (be32(b, pointer(i)), be32(b, pointer(j)));
-    put(b, pointer(i), y);
-    put(b, pointer(j), x);
-    seal(b);
+    t.change(root, pointer(i), y);
+    t.change(root, pointer(j), x);
     let (walked, linked) = t.walk(tally).expect("the order is no question of the walk");
     assert!(!linked, "pointers {i} and {j} of the root exchanged");
     relink(&g, &mut t.image, &walked.blocks);
@@ -222,9 +227,11 @@ fn other_order(r: &mut Random, t: &mut Stored, tally: &mut Tally) {
 
 /// Nine levels: below the root each has two blocks, side by side, and each node
 /// of them one child.
-fn tall(tree: Tree) -> Stored {
-    let g = Geometry::v5(512);
-    let cap = paper::node_capacity(&g, tree) as usize;
+fn tall(kind: Kind, version: u64) -> Stored {
+    let g = Geometry {
+        version,
+        ..Geometry::v5(512)
+    };
     let at: Vec<u32> = (0..17).collect();
     let mut image = vec![0; at.len() * 512];
     for (&n, b) in at.iter().zip(image.chunks_exact_mut(512)) {
@@ -235,21 +242,21 @@ fn tall(tree: Tree) -> Stored {
             _ => vec![n - 2],
         };
         for (i, &child) in children.iter().enumerate() {
-            put(b, 56 + cap * (tree.entry_len() - 4) + 4 * i, child);
+            put(b, pointer(&g, kind, i), child);
         }
         let records = children.len() as u16;
-        stamp(b, &g.superblock(), tree.shape(), g.agno, n, level, records);
+        stamp(b, &g.superblock(), kind.shape(), g.agno, n, level, records);
     }
     relink(&g, &mut image, &at);
     let room = Room {
-        stack: 2 * 9 * cap,
+        stack: 2 * 9 * kinds::node_capacity(&g, kind),
         scratch: at.len(),
         blocks: at.len(),
         bytes: 0,
     };
     Stored {
         g,
-        tree,
+        kind,
         image,
         at,
         levels: 9,
@@ -257,15 +264,17 @@ fn tall(tree: Tree) -> Stored {
     }
 }
 
-pub fn links(r: &mut Random, scale: u64, tally: &mut Tally) {
-    for _ in 0..1000 * scale {
+/// Trees in so many geometries.
+pub fn links_of(r: &mut Random, of: &[Kind], times: u64, tally: &mut Tally) {
+    for _ in 0..times {
         let mut g = geometry(r, false);
         g.version = 5;
-        let tree = r.pick(&Tree::BOTH);
-        let leaf = (g.block_size as usize - 56) / tree.record_len();
+        let kind = r.pick(of);
+        kinds::some_version(r, kind, &mut g);
+        let leaf = (g.block_size as usize - header_len(&g)) / kind.record_len();
         let leaves = r.pick(&[1, 3, 10, 30]);
         let n = r.below(leaves * leaf as u64 + 1) as usize;
-        let Some(mut t) = stored(r, g, tree, n, tally) else {
+        let Some(mut t) = stored(r, g, kind, n, tally) else {
             continue;
         };
         let all = t.at.clone();
@@ -274,20 +283,28 @@ pub fn links(r: &mut Random, scale: u64, tally: &mut Tally) {
             other_order(r, &mut t, tally);
         }
     }
+}
+
+/// As many levels as a walk takes.
+pub fn tall_links(r: &mut Random, of: &[Kind], version: u64, tally: &mut Tally) {
+    for &kind in of {
+        let mut t = tall(kind, version);
+        let all = t.at.clone();
+        single_links(r, &mut t, &all, tally);
+    }
+}
+
+pub fn links(r: &mut Random, scale: u64, tally: &mut Tally) {
+    links_of(r, &Kind::OLDER, 1000 * scale, tally);
     // A built tree of five levels: the upper three, some of the nodes below
     // them, and some of all blocks.
     let mut g = Geometry::v5(512);
     g.agblocks = 2000;
-    let mut t = stored(r, g, Tree::Rmap, 19 * 1001, tally).expect("a tree");
+    let mut t = stored(r, g, Kind::RMAP, 19 * 1001, tally).expect("a tree");
     assert_eq!(t.levels, 5);
     let mut some = t.at[1001 + 80..].to_vec();
     some.extend((0..30 * scale).map(|_| r.pick(&t.at)));
     single_links(r, &mut t, &some, tally);
-    // As many levels as a walk takes.
-    for tree in Tree::BOTH {
-        let mut t = tall(tree);
-        let all = t.at.clone();
-        single_links(r, &mut t, &all, tally);
-    }
+    tall_links(r, &Kind::OLDER, 5, tally);
     tally.met_both(LINKED);
 }

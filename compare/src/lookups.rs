@@ -4,6 +4,7 @@
 
 use crate::blocks::{geometry, seal};
 use crate::edits::{bytes, expect, same};
+use crate::kinds::Kind;
 use crate::lent::{hex, Lent};
 use crate::library;
 use crate::links::{self, be32, put};
@@ -295,12 +296,12 @@ pub fn one_whole(l: &Lookup, walked: &Walked, tally: &mut Tally) -> Due {
 /// asked, and its blocks, leaves first; none where the geometry is refused.
 fn stored(r: &mut Random, g: Geometry, n: usize) -> Option<(Lookup, Vec<u32>, Vec<u8>)> {
     let size = g.block_size as usize;
-    let list = trees::list(r, Tree::Rmap, n);
+    let list = trees::list(r, Kind::RMAP, n);
     let plan = paper::plan(&g, Tree::Rmap, n as u64).accepted()?;
     let total = plan.iter().sum::<u64>() as usize;
     let most = total + r.below(3) as usize;
     let at = trees::numbers(r, total, most);
-    let built = links::build(&g, Tree::Rmap, &list, &at, total * size).accepted()?;
+    let built = links::build(&g, Kind::RMAP, &list, &at, total * size).accepted()?;
     let mut image = vec![0x5A; most * size];
     for (&n, b) in at.iter().zip(built.chunks_exact(size)) {
         image[n as usize * size..][..size].copy_from_slice(b);
@@ -432,7 +433,7 @@ fn damage(r: &mut Random, l: &mut Lookup, at: &[u32], marks: &[u32]) {
             }
         }
     }
-    seal(b);
+    seal(&g, b);
 }
 
 /// One to three of these: another root, other levels, another geometry, a shorter
@@ -518,7 +519,7 @@ fn shared(r: &mut Random) -> Lookup {
         }
         let (sb, shape) = (g.superblock(), Tree::Rmap.shape());
         stamp(b, &sb, shape, g.agno, level, level as u16, n as u16);
-        seal(b);
+        seal(&g, b);
     }
     let most = r.below(9);
     let asked = sorted((0..most).map(|_| r.below(16) as u32).collect());
@@ -594,7 +595,7 @@ fn to_store(r: &mut Random) -> (Geometry, usize) {
     if r.below(2) == 0 {
         g.block_size = 512;
     }
-    let n = trees::sizes(r, &g, Tree::Rmap);
+    let n = trees::sizes(r, &g, Kind::RMAP);
     let plan = paper::plan(&g, Tree::Rmap, n as u64).accepted();
     // As many blocks as the tree has, fewer or more. It has at most 26, and the
     // limit is 64 or more: `at_the_limit` has a tree that comes to it.
@@ -616,7 +617,7 @@ fn to_store(r: &mut Random) -> (Geometry, usize) {
 fn built(r: &mut Random, g: Geometry, n: usize, tally: &mut Tally) -> (Lookup, Vec<u32>) {
     let (mut l, at, list) = stored(r, g, n).expect("a tree");
     let size = g.block_size as usize;
-    trees::one_build(&g, Tree::Rmap, &list, &at, at.len() * size, tally);
+    trees::one_build(&g, Kind::RMAP, &list, &at, at.len() * size, tally);
     let about = marks(&l);
     let walked = walk(&l).expect("a whole tree is walked");
     for _ in 0..4 {
@@ -660,7 +661,7 @@ fn large(r: &mut Random, size: u64, tally: &mut Tally) {
         put(b, pointer(&g, i), r.pick(&at[..at.len() - 1]));
     }
     claim(b, full);
-    seal(b);
+    seal(&g, b);
     let (last, to) = (be32(b, keys(full - 1)), be32(b, pointer(&g, full - 1)));
     for most in [5, 40] {
         l.asked = ascending(r, &about, most);

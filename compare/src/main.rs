@@ -10,7 +10,9 @@
 mod bench;
 mod blocks;
 mod edits;
+mod free;
 mod held;
+mod kinds;
 mod lent;
 mod library;
 mod links;
@@ -33,7 +35,7 @@ struct Part {
 }
 
 /// In this order: a part's seed goes by its place.
-const PARTS: [Part; 13] = [
+const PARTS: [Part; 16] = [
     Part {
         name: "crc",
         tries:
@@ -42,7 +44,7 @@ const PARTS: [Part; 13] = [
     },
     Part {
         name: "lists",
-        tries: "both kinds of list, accepted or not",
+        tries: "reverse maps and shared counts, accepted or not",
         run: edits::accepted_lists,
     },
     Part {
@@ -77,12 +79,12 @@ const PARTS: [Part; 13] = [
     },
     Part {
         name: "lets_go",
-        tries: "both lists, agreeing or not",
+        tries: "a reverse map and shared counts, agreeing or not",
         run: edits::lets_go,
     },
     Part {
         name: "takes_held",
-        tries: "both lists, agreeing or not",
+        tries: "a reverse map and shared counts, agreeing or not",
         run: held::takes,
     },
     Part {
@@ -100,6 +102,21 @@ const PARTS: [Part; 13] = [
         name: "lookups",
         tries: "trees built, stored, then looked up in whole, damaged or otherwise asked",
         run: lookups::lookups,
+    },
+    Part {
+        name: "free_lists",
+        tries: "free extents by block and by size: all lists of up to three of a small world, and around the last end",
+        run: free::lists,
+    },
+    Part {
+        name: "free_trees",
+        tries: "free-space trees on both versions: blocks, plans, builds, walks, links, over vectors, and as other kinds",
+        run: free::trees,
+    },
+    Part {
+        name: "same",
+        tries: "two lists of free extents: of a small world each beside each, and with something changed",
+        run: free::sameness,
     },
 ];
 

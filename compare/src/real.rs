@@ -2,12 +2,14 @@
 //! tool printed, and so does the original; a lookup counts the records printed.
 //!
 //! A `.case` file has a geometry and blocks in hex, its `.expect` what was
-//! printed of them. The two group trees in scope are `rmap` and `refcount`;
-//! each has to be linked, by the siblings printed. The walk refuses any other
-//! tree, as the original does. An `.ops` file is a history. Each file is named
-//! with the calls that were made for it, and a file that gives rise to none is
-//! an error.
+//! printed of them. The trees are `rmap`, `refcount`, `bno` (free space by block)
+//! and `cnt` (by size); each has to be linked, by the siblings printed, and is
+//! refused as any other kind. The last two have to hold the same extents. An
+//! `.ops` file is a history. Each file is named with the calls that were made for
+//! it, and a file that gives rise to none is an error.
 
+use crate::free;
+use crate::kinds::{self, Kind};
 use crate::library::{self, Walk};
 use crate::links;
 use crate::lists::{count_bytes, Count, STAGING};
@@ -15,15 +17,16 @@ use crate::lookups::{self, Lookup};
 use crate::tally::Tally;
 use crate::trees::{walk_figures, Memory, Room};
 use crate::vectors::extent;
+use oracle::alloc_btree::FreeExtent;
 use oracle::bare::{WalkAnswer, Walked};
 use oracle::rmap::{Rmap, OFF_ATTR_FORK, OFF_BMBT_BLOCK, OFF_UNWRITTEN};
-use oracle::{bare, paper, Geometry, Tree};
+use oracle::{bare, Geometry, Tree};
 use std::fs;
 
 /// A tree of a volume, and what it holds.
 pub struct RealTree {
     pub g: Geometry,
-    pub tree: Tree,
+    pub kind: Kind,
     pub root: u32,
     pub levels: u32,
     /// Number and bytes.
@@ -45,16 +48,20 @@ fn unhex(s: &str) -> Vec<u8> {
         .collect()
 }
 
-fn kind(name: &str) -> Option<Tree> {
-    match name {
-        "rmap" => Some(Tree::Rmap),
-        "refc" | "refcount" => Some(Tree::Refcount),
-        _ => None,
-    }
+/// The names of the kinds, by their numbers.
+const NAMES: [&str; 4] = ["rmap", "refcount", "bno", "cnt"];
+
+fn kind(name: &str) -> Kind {
+    let at = NAMES.iter().position(|n| *n == name);
+    Kind::ALL[at.unwrap_or_else(|| panic!("no kind of tree: {name}"))]
 }
 
-/// The trees of a case, with their names.
-fn read_all(case: &str) -> Vec<(String, RealTree)> {
+fn name(kind: Kind) -> &'static str {
+    NAMES[kind.number() as usize]
+}
+
+/// The trees of a case.
+pub fn read(case: &str) -> Vec<RealTree> {
     let text = fs::read_to_string(case).unwrap_or_else(|e| panic!("{case}: {e}"));
     let expect = case
         .strip_suffix(".case")
@@ -63,7 +70,7 @@ fn read_all(case: &str) -> Vec<(String, RealTree)> {
         + ".expect";
     let expect = fs::read_to_string(&expect).unwrap_or_else(|e| panic!("{expect}: {e}"));
     let mut g = Geometry::v5(512);
-    let mut all: Vec<(String, RealTree)> = Vec::new();
+    let mut all: Vec<RealTree> = Vec::new();
     for line in text.lines().filter(|l| !l.starts_with('#')) {
         let w: Vec<&str> = line.split_whitespace().collect();
         match w[..] {
@@ -72,21 +79,18 @@ fn read_all(case: &str) -> Vec<(String, RealTree)> {
             ["agblocks", n] => g.agblocks = number(n),
             ["agno", n] => g.agno = number(n),
             ["uuid", h] => g.meta_uuid = unhex(h).try_into().expect("16 bytes"),
-            ["tree", name, "root", root, "levels", levels] => all.push((
-                name.to_string(),
-                RealTree {
-                    g,
-                    tree: kind(name).unwrap_or(Tree::Rmap),
-                    root: number(root),
-                    levels: number(levels),
-                    stored: vec![],
-                    blocks: vec![],
-                    records: vec![],
-                    siblings: vec![],
-                },
-            )),
+            ["tree", name, "root", root, "levels", levels] => all.push(RealTree {
+                g,
+                kind: kind(name),
+                root: number(root),
+                levels: number(levels),
+                stored: vec![],
+                blocks: vec![],
+                records: vec![],
+                siblings: vec![],
+            }),
             ["block", n, h] => {
-                let t = &mut all.last_mut().expect("a tree").1;
+                let t = all.last_mut().expect("a tree");
                 t.stored.push((number(n), unhex(h)));
             }
             _ => panic!("{case}: {line}"),
@@ -96,19 +100,19 @@ fn read_all(case: &str) -> Vec<(String, RealTree)> {
     for line in expect.lines().filter(|l| !l.starts_with('#')) {
         let w: Vec<&str> = line.split_whitespace().collect();
         match w[0] {
-            "tree" => at = all.iter().position(|(n, _)| n == w[1]),
+            "tree" => at = all.iter().position(|t| name(t.kind) == w[1]),
             "level" => {
-                let t = &mut all[at.expect("a tree")].1;
+                let t = &mut all[at.expect("a tree")];
                 t.blocks.extend(w[2..].iter().map(|n| number::<u32>(n)));
             }
             "sib" => {
-                let t = &mut all[at.expect("a tree")].1;
+                let t = &mut all[at.expect("a tree")];
                 t.siblings.push([1, 2, 3].map(|i| number(w[i])));
             }
             "rec" => {
-                let (name, t) = &mut all[at.expect("a tree")];
-                match kind(name) {
-                    Some(Tree::Rmap) => {
+                let t = &mut all[at.expect("a tree")];
+                match t.kind {
+                    Kind::Older(Tree::Rmap) => {
                         let flag = |i: usize, f: u64| if w[i] == "1" { f } else { 0 };
                         let r = Rmap {
                             startblock: number(w[1]),
@@ -121,7 +125,7 @@ fn read_all(case: &str) -> Vec<(String, RealTree)> {
                         };
                         t.records.extend(bare::rmap_bytes(&[r]));
                     }
-                    Some(Tree::Refcount) => {
+                    Kind::Older(Tree::Refcount) => {
                         let staging = if w[4] == "1" { STAGING } else { 0 };
                         let c = Count {
                             start: number::<u32>(w[1]) | staging,
@@ -130,21 +134,19 @@ fn read_all(case: &str) -> Vec<(String, RealTree)> {
                         };
                         t.records.extend(count_bytes(&[c]));
                     }
-                    None => (),
+                    Kind::Free(_) => {
+                        let x = FreeExtent {
+                            startblock: number(w[1]),
+                            blockcount: number(w[2]),
+                        };
+                        t.records.extend(bare::free_bytes(&[x]));
+                    }
                 }
             }
             _ => (),
         }
     }
     all
-}
-
-/// The trees in scope of a case.
-pub fn read(case: &str) -> Vec<RealTree> {
-    let all = read_all(case).into_iter();
-    all.filter(|(n, _)| kind(n).is_some())
-        .map(|(_, t)| t)
-        .collect()
 }
 
 impl RealTree {
@@ -255,11 +257,11 @@ fn history(file: &str, name: &str) -> u32 {
 
 /// Both walks of a tree, read as one of a kind, with as many places and bytes
 /// as the tree has, beside the original's: its answer.
-fn walks(what: &str, t: &RealTree, kind: Tree, image: &[u8], linked: bool) -> WalkAnswer {
-    let a = bare::walk_blocks(&t.g, kind, image, t.root, t.levels);
+fn walks(what: &str, t: &RealTree, kind: Kind, image: &[u8], linked: bool) -> WalkAnswer {
+    let a = kinds::bare_walk(&t.g, kind, image, t.root, t.levels);
     for w in Walk::BOTH {
         let mut m = Memory::new(Room {
-            stack: 2 * t.levels as usize * paper::node_capacity(&t.g, kind) as usize,
+            stack: 2 * t.levels as usize * kinds::node_capacity(&t.g, kind),
             scratch: t.blocks.len(),
             blocks: t.blocks.len(),
             bytes: t.records.len(),
@@ -311,51 +313,73 @@ fn lookups_of(what: &str, t: &RealTree, image: &[u8], walked: &Walked) -> u64 {
     tally.calls()
 }
 
-/// A tree in scope: its records, blocks and siblings are those printed, and it
-/// is linked.
-fn in_scope(case: &str, name: &str, t: &RealTree) -> u32 {
-    let what = format!("{case} {name}");
+/// A tree: its records, blocks and siblings are those printed, and it is linked;
+/// as any other kind it is refused.
+fn one_tree(case: &str, t: &RealTree) -> u32 {
+    let what = format!("{case} {}", name(t.kind));
     let image = t.image();
-    let a = walks(&what, t, t.tree, &image, true).outcome.accepted();
+    let a = walks(&what, t, t.kind, &image, true).outcome.accepted();
     let a = a.expect("the original walks it");
     assert!(a.blocks == t.blocks && a.records == t.records, "{what}");
     assert!(links::linked(&t.g, &image, &t.blocks), "{what}: linked");
     assert_eq!(t.siblings.len(), t.blocks.len(), "{what}: siblings printed");
     for &[n, left, right] in &t.siblings {
         let b = links::block(&t.g, &image, n);
-        let (g, kind) = (library::g(&t.g), library::kind(t.tree));
+        let (g, kind) = (library::g(&t.g), t.kind.number());
         let level = u16::from(b[4]) * 256 + u16::from(b[5]);
         let said = library::check_block(&g, kind, n, level, b);
         let due = [left, right].map(u64::from);
         assert_eq!((said.number, &said.figures[2..]), (0, &due[..]), "{what}");
     }
-    let looked = match t.tree {
-        Tree::Rmap => lookups_of(&what, t, &image, &a),
-        Tree::Refcount => 0,
+    let looked = match t.kind {
+        Kind::RMAP => lookups_of(&what, t, &image, &a),
+        _ => 0,
     };
-    let (n, count) = (a.blocks.len(), a.records.len() / t.tree.record_len());
+    let mut refused = Vec::new();
+    for kind in Kind::ALL.into_iter().filter(|&k| k != t.kind) {
+        let due = match kind {
+            Kind::Older(_) if t.g.version == 4 => 3,
+            _ => 4,
+        };
+        let other = walks(&what, t, kind, &image, false);
+        assert_eq!(other.outcome.number(), Some(due), "{what}");
+        refused.push(format!("{} by {due}", name(kind)));
+    }
+    let (n, count) = (a.blocks.len(), a.records.len() / t.kind.record_len());
     let lookups = match looked {
         0 => String::new(),
         n => format!(", lookups {n}, keys theirs"),
     };
     println!(
-        "{what}: walks 2, block checks {n}{lookups}; blocks {n}, records {count} and siblings as printed, linked"
+        "{what}: walks 8, block checks {n}{lookups}; blocks {n}, records {count} and siblings as printed, linked; refused as {}",
+        refused.join(", ")
     );
-    2 + n as u32 + looked as u32
+    8 + n as u32 + looked as u32
 }
 
-/// Any other tree, read as each of the two kinds: 3 on version 4, 4 on
-/// version 5, with the original's values.
-fn out_of_scope(case: &str, name: &str, t: &RealTree) -> u32 {
-    let what = format!("{case} {name}");
-    let image = t.image();
-    let number = if t.g.version == 4 { 3 } else { 4 };
-    for kind in Tree::BOTH {
-        let a = walks(&what, t, kind, &image, false);
-        assert_eq!(a.outcome.number(), Some(number), "{what}");
+/// Both free-space trees: each list is accepted in its order, and they hold the
+/// same extents, but not with one less in either.
+fn free_space(case: &str, trees: &[RealTree]) -> u32 {
+    let list = |kind| trees.iter().find(|t| t.kind == kind).map(|t| &t.records);
+    let (Some(bno), Some(cnt)) = (list(Kind::BY_BLOCK), list(Kind::BY_SIZE)) else {
+        return 0;
+    };
+    assert_eq!(library::check_by_block(bno), 0, "{case} bno");
+    assert_eq!(library::check_by_size(cnt), 0, "{case} cnt");
+    for (bno, cnt, yes) in [
+        (&bno[..], &cnt[..], 1),
+        (&bno[8..], cnt, 0),
+        (bno, &cnt[8..], 0),
+    ] {
+        let said = library::same_extents(bno, cnt);
+        let due = (0, [yes, 0, 0, 0]);
+        assert_eq!((said.number, said.figures), due, "{case}");
+        assert_eq!(free::due(bno, cnt), due, "{case}");
     }
-    println!("{what}: walks 4, refused by {number} as rmap and as refcount");
-    4
+    println!(
+        "{case} bno and cnt: both accepted, the same extents, with one less not; same_extents 3"
+    );
+    5
 }
 
 /// The name of a file without its folder.
@@ -371,13 +395,9 @@ pub fn real(files: &[String]) {
         let calls: u32 = if file.ends_with(".ops") {
             history(file, name)
         } else {
-            read_all(file)
-                .iter()
-                .map(|(tree, t)| match kind(tree) {
-                    Some(_) => in_scope(name, tree, t),
-                    None => out_of_scope(name, tree, t),
-                })
-                .sum()
+            let trees = read(file);
+            let calls: u32 = trees.iter().map(|t| one_tree(name, t)).sum();
+            calls + free_space(name, &trees)
         };
         assert!(calls > 0, "{file} made no call");
         all += calls;

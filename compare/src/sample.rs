@@ -5,12 +5,12 @@
 //!
 //! | number | |
 //! |---|---|
-//! | 0 | the call: 1 crc32c, 2 check_rmaps, 3 check_refcounts, 4 check_block, 5 plan, 6 build, 7 walk, 8 insert, 9 insert_shared, 10 remove, 11 release, 12 let_go, 13 a walk over blocks that are given one by one, 14 take_held, 15 crc32c_singly, 16 walk_linked, 17 a walk_linked over blocks that are given one by one, 18 lookup; 0 after the last case |
+//! | 0 | the call: 1 crc32c, 2 check_rmaps, 3 check_refcounts, 4 check_block, 5 plan, 6 build, 7 walk, 8 insert, 9 insert_shared, 10 remove, 11 release, 12 let_go, 13 a walk over blocks that are given one by one, 14 take_held, 15 crc32c_singly, 16 walk_linked, 17 a walk_linked over blocks that are given one by one, 18 lookup, 19 check_by_block, 20 check_by_size, 21 same_extents; 0 after the last case |
 //! | 1 | the answer |
 //! | 2 to 9 | the four figures, high half first |
 //! | 10 to 13 | version, block size, agblocks, agno |
 //! | 14 to 17 | the UUID |
-//! | 18 | the kind: 0 or 1 |
+//! | 18 | the kind: 0 to 3 |
 //! | 19 | start, block or root |
 //! | 20 | count, level or levels |
 //! | 21, 22 | owner; the records of a plan; in 21 the blocks that a walk of 13 or 17 is given |
@@ -21,7 +21,8 @@
 //!
 //! Then the inputs, then what each output holds afterwards, all of it: outputs
 //! are lent filled with the byte 0xA5. The second input of a build is its
-//! block numbers, that of a lookup the numbers asked; the first output of a
+//! block numbers, that of a lookup the numbers asked; the inputs of same_extents
+//! are the list by block and the list by size. The first output of a
 //! lookup is its answers, 8 bytes each. What a plan and a walk leave in the nine places and in the
 //! block list, lent filled so too, stands where an input would: the first of
 //! a plan, the second of a walk. After the inputs of 13 and 17 come the blocks,
@@ -29,23 +30,26 @@
 
 use crate::blocks;
 use crate::edits::{due, expect};
+use crate::free;
 use crate::held;
-use crate::library::{self, Edit, Walk};
+use crate::kinds::{self, Kind};
+use crate::library::{Edit, Walk};
 use crate::links;
 use crate::lists;
 use crate::lookups::{self, Due, Left, Lookup};
 use crate::real;
 use crate::trees;
+use oracle::alloc_btree::Order;
 use oracle::refusal::Outcome;
 use oracle::rmap::Rmap;
 use oracle::sample::Random;
-use oracle::{bare, paper, Geometry, Tree};
-use std::collections::BTreeMap;
+use oracle::{bare, paper, Geometry};
+use std::collections::{BTreeMap, BTreeSet};
 
 const FILL: u8 = 0xA5;
 
 /// The calls by their number in a case.
-const CALLS: [&str; 19] = [
+const CALLS: [&str; 22] = [
     "end",
     "crc32c",
     "check_rmaps",
@@ -65,6 +69,9 @@ const CALLS: [&str; 19] = [
     "walk_linked",
     "walk_linked of real blocks",
     "lookup",
+    "check_by_block",
+    "check_by_size",
+    "same_extents",
 ];
 
 #[derive(Default)]
@@ -88,7 +95,7 @@ impl Case {
         c
     }
 
-    fn geometry(mut self, g: &Geometry, tree: Tree) -> Case {
+    fn geometry(mut self, g: &Geometry, kind: Kind) -> Case {
         self.head[10..14].copy_from_slice(&[
             g.version as u32,
             g.block_size as u32,
@@ -99,7 +106,7 @@ impl Case {
             let w = g.meta_uuid[4 * i..4 * i + 4].try_into().expect("4 bytes");
             self.head[14 + i] = u32::from_be_bytes(w);
         }
-        self.head[18] = library::kind(tree);
+        self.head[18] = kind.number();
         self
     }
 
@@ -148,6 +155,13 @@ impl Cases {
     fn add(&mut self, c: Case) {
         *self.seen.entry((c.head[0], c.head[1])).or_default() += 1;
         self.all.push(c);
+    }
+
+    /// Add it where there are not yet `most` of the call with that answer.
+    fn add_wanted(&mut self, c: Case, most: usize) {
+        if self.wants(c.head[0], c.head[1], most) {
+            self.add(c);
+        }
     }
 }
 
@@ -301,94 +315,94 @@ fn block_cases(r: &mut Random, cases: &mut Cases) {
     for _ in 0..4000 {
         let bad = r.below(10) == 0;
         let g = blocks::geometry(r, bad);
-        let tree = r.pick(&Tree::BOTH);
-        let (block, level, b) = blocks::block(r, &g, tree, 512);
-        let o = paper::parse_block(&g, tree, &b, block, level);
-        let said = expect(&o, |h| blocks::header_figures(h, &b));
-        if cases.wants(4, said.0, 4) {
-            let c = Case::new(4, said).geometry(&g, tree);
-            cases.add(c.two(block, u32::from(level)).given(&b, &[]));
-        }
+        let kind = r.pick(&Kind::OLDER);
+        let (block, level, b) = blocks::block(r, &g, kind, 512);
+        let c = block_case(&g, kind, block, level, &b);
+        cases.add_wanted(c, 4);
         let bits = r.below(65);
         let n = if bits == 0 {
             0
         } else {
             r.next() >> (64 - bits)
         };
-        let o = paper::plan(&g, tree, n);
-        let said = expect(&o, |v| [v.len() as u64, v.iter().sum(), 0, 0]);
-        if cases.wants(5, said.0, 12) {
-            let levels = match o.accepted() {
-                Some(mut v) => {
-                    v.resize(9, 0);
-                    v.iter().flat_map(|n| n.to_be_bytes()).collect()
-                }
-                None => vec![FILL; 9 * 8],
-            };
-            let mut c = Case::new(5, said).geometry(&g, tree);
-            c.head[21..23].copy_from_slice(&halves(n));
-            cases.add(c.given(&levels, &[]));
-        }
+        cases.add_wanted(plan_case(&g, kind, n), 12);
     }
+}
+
+fn block_case(g: &Geometry, kind: Kind, block: u32, level: u16, b: &[u8]) -> Case {
+    let o = kinds::parse_block(g, kind, b, block, level);
+    let said = expect(&o, |h| blocks::header_figures(h, b));
+    let c = Case::new(4, said).geometry(g, kind);
+    c.two(block, u32::from(level)).given(b, &[])
+}
+
+fn plan_case(g: &Geometry, kind: Kind, records: u64) -> Case {
+    let o = kinds::plan(g, kind, records);
+    let said = expect(&o, |v| [v.len() as u64, v.iter().sum(), 0, 0]);
+    let levels = match o.accepted() {
+        Some(mut v) => {
+            v.resize(9, 0);
+            v.iter().flat_map(|n| n.to_be_bytes()).collect()
+        }
+        None => vec![FILL; 9 * 8],
+    };
+    let mut c = Case::new(5, said).geometry(g, kind);
+    c.head[21..23].copy_from_slice(&halves(records));
+    c.given(&levels, &[])
 }
 
 fn build_cases(r: &mut Random, cases: &mut Cases) {
     for _ in 0..3000 {
-        let mut g = blocks::geometry(r, false);
-        g.block_size = 512;
-        if r.below(20) == 0 {
-            g = blocks::geometry(r, true);
-        }
-        let tree = r.pick(&Tree::BOTH);
-        let n = r.below(90) as usize;
-        let mut list = trees::list(r, tree, n);
-        match r.below(16) {
-            0 if !list.is_empty() => {
-                let at = r.below(list.len() as u64) as usize;
-                list[at] ^= 1 << r.below(8);
-            }
-            1 => list.push(0),
-            _ => (),
-        }
-        let total = paper::plan(&g, tree, n as u64)
-            .accepted()
-            .map_or(1, |p| p.iter().sum::<u64>()) as usize;
-        let given = if r.below(10) == 0 { total + 1 } else { total };
-        let numbers: Vec<u32> = (0..given).map(|_| r.next() as u32).collect();
-        let mut room = total * 512 + r.below(20) as usize;
-        if r.below(10) == 0 {
-            room -= 1 + r.below(20).min(room as u64 - 1) as usize;
-        }
-        let o = links::build(&g, tree, &list, &numbers, room);
-        let said = expect(&o, |v| {
-            [v.len() as u64 / g.block_size, v.len() as u64, 0, 0]
-        });
-        if cases.wants(6, said.0, if said.0 == 0 { 8 } else { 2 }) {
-            let c = Case::new(6, said).geometry(&g, tree);
-            let c = c.given(&list, &number_bytes(&numbers));
-            cases.add(c.output(0, room, &o.accepted().unwrap_or_default()));
-        }
+        let c = build_case(r, &Kind::OLDER);
+        let most = if c.head[1] == 0 { 8 } else { 2 };
+        cases.add_wanted(c, most);
     }
+}
+
+fn build_case(r: &mut Random, of: &[Kind]) -> Case {
+    let mut g = blocks::geometry(r, false);
+    g.block_size = 512;
+    if r.below(20) == 0 {
+        g = blocks::geometry(r, true);
+    }
+    let kind = r.pick(of);
+    kinds::some_version(r, kind, &mut g);
+    let n = r.below(90) as usize;
+    let mut list = trees::list(r, kind, n);
+    match r.below(16) {
+        0 if !list.is_empty() => {
+            let at = r.below(list.len() as u64) as usize;
+            list[at] ^= 1 << r.below(8);
+        }
+        1 => list.push(0),
+        _ => (),
+    }
+    let total = kinds::plan(&g, kind, n as u64)
+        .accepted()
+        .map_or(1, |p| p.iter().sum::<u64>()) as usize;
+    let given = if r.below(10) == 0 { total + 1 } else { total };
+    let numbers: Vec<u32> = (0..given).map(|_| r.next() as u32).collect();
+    let mut room = total * 512 + r.below(20) as usize;
+    if r.below(10) == 0 {
+        room -= 1 + r.below(20).min(room as u64 - 1) as usize;
+    }
+    let o = links::build(&g, kind, &list, &numbers, room);
+    let said = expect(&o, |v| {
+        [v.len() as u64 / g.block_size, v.len() as u64, 0, 0]
+    });
+    let c = Case::new(6, said).geometry(&g, kind);
+    let c = c.given(&list, &number_bytes(&numbers));
+    c.output(0, room, &o.accepted().unwrap_or_default())
 }
 
 /// Each walk by both calls, as far as each still wants its answer.
 fn walk_cases(r: &mut Random, cases: &mut Cases) {
     let mut done = BTreeMap::new();
     for _ in 0..3000 {
-        let w = trees::small_walk(r);
-        let lent = paper::Lent {
-            record_bytes: w.bytes,
-            block_places: w.blocks,
-            stack_places: w.stack,
-            scratch_places: w.scratch,
-        };
-        let a = paper::walk_blocks(&w.g, w.tree, &w.image, w.root, w.levels, &lent);
-        let linked = match &a.outcome {
-            Outcome::Accepted(walked) => links::linked(&w.g, &w.image, &walked.blocks),
-            _ => false,
-        };
+        let w = trees::small_walk(r, &Kind::OLDER);
+        let (a, linked) = walked(&w);
         for (walk, call) in Walk::BOTH.into_iter().zip([7, 16]) {
-            let said = trees::walk_figures(&a, w.tree, walk.says(linked));
+            let said = trees::walk_figures(&a, w.kind, walk.says(linked));
             let wanted = match (&a.outcome, walk) {
                 // Of trees of several blocks, as many of each kind.
                 (Outcome::Accepted(walked), Walk::Linked) if w.levels > 1 => {
@@ -411,6 +425,22 @@ fn walk_cases(r: &mut Random, cases: &mut Cases) {
     );
     let by: Vec<&str> = done.into_keys().collect();
     println!("walk_linked, of those done two each: {}", by.join("; "));
+}
+
+/// What the original makes of a walk, and whether the tree is linked.
+fn walked(w: &trees::SmallWalk) -> (bare::WalkAnswer, bool) {
+    let lent = paper::Lent {
+        record_bytes: w.bytes,
+        block_places: w.blocks,
+        stack_places: w.stack,
+        scratch_places: w.scratch,
+    };
+    let a = kinds::walk_blocks(&w.g, w.kind, &w.image, w.root, w.levels, &lent);
+    let linked = match &a.outcome {
+        Outcome::Accepted(walked) => links::linked(&w.g, &w.image, &walked.blocks),
+        _ => false,
+    };
+    (a, linked)
 }
 
 /// Why a walk's tree is linked or not.
@@ -437,7 +467,7 @@ fn walk_case(
     };
     let mut places = number_bytes(&list);
     places.resize(4 * w.blocks, FILL);
-    let c = Case::new(call, said).geometry(&w.g, w.tree);
+    let c = Case::new(call, said).geometry(&w.g, w.kind);
     let c = c.two(w.root, w.levels).given(&w.image, &places);
     let mut c = c.output(0, w.bytes, &records);
     c.head[29..].copy_from_slice(&[u32::from(!early), w.stack as u32, w.scratch as u32]);
@@ -504,7 +534,7 @@ fn lookup_case(l: &Lookup, due: &Due) -> Case {
         Left::Found(found) => found.clone(),
     };
     let answers: Vec<u8> = answers.iter().flat_map(|n| n.to_be_bytes()).collect();
-    let c = Case::new(18, (due.number, due.figures)).geometry(&l.g, Tree::Rmap);
+    let c = Case::new(18, (due.number, due.figures)).geometry(&l.g, Kind::RMAP);
     let c = c.two(l.root, l.levels);
     let c = c.given(&l.image, &number_bytes(&l.asked));
     let mut c = c.output(0, 8 * l.answers, &answers);
@@ -523,15 +553,13 @@ fn real_cases(files: &[String], cases: &mut Cases) {
         let name = real::file_name(file);
         for (n, b) in &t.stored {
             let level = u16::from(b[4]) * 256 + u16::from(b[5]);
-            let o = paper::parse_block(&t.g, t.tree, b, *n, level);
-            let said = expect(&o, |h| blocks::header_figures(h, b));
-            assert_eq!(said.0, 0, "a block of a real volume is good");
-            let c = Case::new(4, said).geometry(&t.g, t.tree);
-            cases.add(c.two(*n, u32::from(level)).given(b, &[]));
+            let c = block_case(&t.g, t.kind, *n, level, b);
+            assert_eq!(c.head[1], 0, "a block of a real volume is good");
+            cases.add(c);
         }
         let last = t.stored.iter().map(|s| s.0).max().expect("a block");
         if (u64::from(last) + 1) * t.g.block_size > 1460 * 2048 {
-            println!("{name} {:?}: not walked, blocks up to {last}", t.tree);
+            println!("{name} {:?}: not walked, blocks up to {last}", t.kind);
             continue;
         }
         for (walk, call) in Walk::BOTH.into_iter().zip([13, 17]) {
@@ -546,11 +574,11 @@ fn real_walk(walk: Walk, call: u32, t: &real::RealTree) -> Case {
     let linked = links::linked(&t.g, &t.image(), &t.blocks);
     let figures = [
         t.blocks.len() as u64,
-        (n / t.tree.record_len()) as u64,
+        (n / t.kind.record_len()) as u64,
         n as u64,
         walk.says(linked),
     ];
-    let c = Case::new(call, (0, figures)).geometry(&t.g, t.tree);
+    let c = Case::new(call, (0, figures)).geometry(&t.g, t.kind);
     let c = c.two(t.root, t.levels);
     let mut c = c.given(&[], &number_bytes(&t.blocks));
     for (n, b) in &t.stored {
@@ -559,10 +587,88 @@ fn real_walk(walk: Walk, call: u32, t: &real::RealTree) -> Case {
         c.body.extend(b);
     }
     let mut c = c.output(0, n, &t.records);
-    let stack = 2 * t.levels as usize * paper::node_capacity(&t.g, t.tree) as usize;
+    let stack = 2 * t.levels as usize * kinds::node_capacity(&t.g, t.kind);
     c.head[21] = t.stored.len() as u32;
     c.head[29..].copy_from_slice(&[1, stack as u32, t.blocks.len() as u32]);
     c
+}
+
+/// Lists of free extents: of each answer some, and of two lists those that say yes
+/// and no, with as many extents and with more or fewer, and those of which either
+/// is refused.
+fn free_list_cases(r: &mut Random, cases: &mut Cases) {
+    let mut shown = BTreeMap::new();
+    for _ in 0..4000 {
+        let [by_block, by_size] = free::two_lists(r, 9);
+        let refused = |order, list| free::refused(order, list).map_or(0, u32::from);
+        let first = refused(Order::ByBlock, &by_block);
+        let second = refused(Order::ByCount, &by_size);
+        for (call, number, list) in [(19, first, &by_block), (20, second, &by_size)] {
+            let c = Case::new(call, (number, [0; 4])).given(list, &[]);
+            cases.add_wanted(c, 4);
+        }
+        let said = free::due(&by_block, &by_size);
+        let as_many = by_block.len() == by_size.len();
+        if by_block.is_empty() || by_size.is_empty() {
+            continue;
+        }
+        let way = (said, first, second, said.0 == 0 && as_many);
+        let n: &mut u32 = shown.entry(way).or_default();
+        *n += 1;
+        if *n <= 2 {
+            cases.add(Case::new(21, said).given(&by_block, &by_size));
+        }
+    }
+    // Three are done; each list is good, or refused by 19 or 21.
+    assert_eq!(shown.len(), 3 + 8, "{shown:?}");
+}
+
+/// The free-space trees: of each call one for each answer, on each version where the
+/// block check gives it or where it is done; of checks, plans and builds that are
+/// done one for each kind, of walk_linked one that is linked and one that is not.
+fn free_tree_cases(r: &mut Random, cases: &mut Cases) {
+    let mut shown = BTreeSet::new();
+    let mut show = |c: Case| {
+        let [call, number, version, kind, fourth] = [0, 1, 10, 18, 9].map(|i| c.head[i]);
+        let by = match (number, call) {
+            (0, 7 | 16) => [version, fourth],
+            (0, _) => [version, kind],
+            (2..=10, _) => [version, 0],
+            _ => [0; 2],
+        };
+        if shown.insert((call, number, by)) {
+            cases.add(c);
+        }
+    };
+    let of = &Kind::FREE;
+    for _ in 0..12_000 {
+        let bad = r.below(10) == 0;
+        let mut g = blocks::geometry(r, bad);
+        let kind = r.pick(of);
+        kinds::some_version(r, kind, &mut g);
+        let (block, level, b) = blocks::block(r, &g, kind, 512);
+        show(block_case(&g, kind, block, level, &b));
+        let n = r.next() >> r.below(64);
+        show(plan_case(&g, kind, n));
+        show(build_case(r, of));
+    }
+    for _ in 0..6000 {
+        let w = trees::small_walk(r, of);
+        let (a, linked) = walked(&w);
+        for (walk, call) in Walk::BOTH.into_iter().zip([7, 16]) {
+            let said = trees::walk_figures(&a, w.kind, walk.says(linked));
+            // Of trees of several blocks; refused by what goes by the kind, by the one
+            // call, since both refuse alike.
+            let wanted = match said.0 {
+                0 => w.levels > 1,
+                4..=10 | 12 | 15 => walk == Walk::Plain,
+                _ => false,
+            };
+            if wanted {
+                show(walk_case(call, said, &w, &a.outcome));
+            }
+        }
+    }
 }
 
 /// `sample FILE [CASE ..]`.
@@ -578,6 +684,8 @@ pub fn sample(words: &[String]) {
     held_cases(&mut r, &mut cases);
     real_cases(real, &mut cases);
     lookup_cases(&mut r, &mut cases);
+    free_list_cases(&mut r, &mut cases);
+    free_tree_cases(&mut r, &mut cases);
     let mut out = Vec::new();
     for c in &cases.all {
         out.extend(number_bytes(&c.head));

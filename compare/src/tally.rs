@@ -1,16 +1,29 @@
 //! Counts of the calls made, by their answer.
 
-use std::collections::BTreeMap;
+use crate::kinds::Kind;
+use oracle::Geometry;
+use std::collections::{BTreeMap, BTreeSet};
 
 #[derive(Default)]
 pub struct Tally {
     counts: BTreeMap<(&'static str, u32), u64>,
     noted: BTreeMap<&'static str, BTreeMap<&'static str, u64>>,
+    /// The answers met on free-space trees, by call and version.
+    free: BTreeMap<(&'static str, u64), BTreeSet<u32>>,
 }
 
 impl Tally {
     pub fn add(&mut self, call: &'static str, number: u32) {
         *self.counts.entry((call, number)).or_default() += 1;
+    }
+
+    /// A call on a tree.
+    pub fn add_tree(&mut self, call: &'static str, kind: Kind, g: &Geometry, number: u32) {
+        self.add(call, number);
+        if matches!(kind, Kind::Free(_)) {
+            let met = self.free.entry((call, g.version)).or_default();
+            met.insert(number);
+        }
     }
 
     /// One more of some calls, `what`, that came out in one of several ways.
@@ -25,8 +38,13 @@ impl Tally {
 
     /// Both of two ways were met, or the run has not compared what it should.
     pub fn met_both(&self, what: &str) {
-        let ways = self.noted.get(what).map_or(0, BTreeMap::len);
-        assert_eq!(ways, 2, "{what}: not both ways were met");
+        self.met_ways(what, 2);
+    }
+
+    /// The same of several ways.
+    pub fn met_ways(&self, what: &str, ways: usize) {
+        let met = self.noted.get(what).map_or(0, BTreeMap::len);
+        assert_eq!(met, ways, "{what}: not all ways were met");
     }
 
     /// The call was met with each of these answers and with no other, or the run
@@ -37,6 +55,15 @@ impl Tally {
         assert_eq!(
             met, answers,
             "{call}: the answers met, and those that it has"
+        );
+    }
+
+    /// The same of a call on free-space trees of a version.
+    pub fn met_all_free(&self, call: &'static str, version: u64, answers: &[u32]) {
+        let met = self.free.get(&(call, version)).into_iter().flatten();
+        assert!(
+            met.eq(answers),
+            "{call} on version {version}: not these answers were met: {answers:?}"
         );
     }
 

@@ -2,23 +2,26 @@
 
 use crate::blocks::{geometry, seal};
 use crate::edits::{bytes, expect, same};
+use crate::free;
+use crate::kinds::{self, header_len, pointer, Kind};
 use crate::lent::{hex, Lent};
 use crate::library::{self, Walk};
 use crate::links;
 use crate::lists;
 use crate::tally::{differ, Tally};
+use oracle::ag_btree::reach::stamp;
 use oracle::bare::{self, WalkAnswer, Walked};
 use oracle::paper;
 use oracle::refusal::Outcome;
 use oracle::sample::Random;
 use oracle::{Geometry, Tree};
 
-fn one_plan(g: &Geometry, tree: Tree, records: u64, tally: &mut Tally) {
-    let input = || format!("{g:?} {tree:?} records {records}");
-    let want = paper::plan(g, tree, records);
+fn one_plan(g: &Geometry, kind: Kind, records: u64, tally: &mut Tally) {
+    let input = || format!("{g:?} {kind:?} records {records}");
+    let want = kinds::plan(g, kind, records);
     let lent: [u64; 9] = std::array::from_fn(|i| 0x5A5A_5A5A + i as u64);
     let mut levels = lent;
-    let got = library::plan(&library::g(g), library::kind(tree), records, &mut levels);
+    let got = library::plan(&library::g(g), kind.number(), records, &mut levels);
     same(
         "plan",
         &got,
@@ -34,49 +37,58 @@ fn one_plan(g: &Geometry, tree: Tree, records: u64, tally: &mut Tally) {
         let (l, o) = (format!("{levels:?}"), format!("{due:?}"));
         differ("plan", "levels", &l, &o, &input());
     }
-    tally.add("plan", got.number);
+    tally.add_tree("plan", kind, g, got.number);
 }
 
 pub fn plans(r: &mut Random, scale: u64, tally: &mut Tally) {
+    plans_of(r, &Kind::OLDER, 50_000 * scale, tally);
+}
+
+pub fn plans_of(r: &mut Random, of: &[Kind], times: u64, tally: &mut Tally) {
     // The worked ones and their neighbours.
-    for tree in Tree::BOTH {
+    for &kind in of {
         for size in [512u64, 1024, 2048, 4096, 8192, 16384, 32768, 65536] {
             for version in [4, 5] {
                 let g = Geometry {
                     version,
                     ..Geometry::v5(size)
                 };
-                let header = if version == 5 { 56 } else { 16 };
-                let leaf = (size - header) / tree.record_len() as u64;
-                let node = paper::node_capacity(&g, tree);
-                let mut full = leaf;
-                one_plan(&g, tree, 0, tally);
+                let leaf = (size as usize - header_len(&g)) / kind.record_len();
+                let node = kinds::node_capacity(&g, kind);
+                let mut full = leaf as u64;
+                one_plan(&g, kind, 0, tally);
                 for _ in 0..12 {
                     for n in [full - 1, full, full.saturating_add(1)] {
-                        one_plan(&g, tree, n, tally);
+                        one_plan(&g, kind, n, tally);
                     }
-                    full = full.saturating_mul(node);
+                    full = full.saturating_mul(node as u64);
                 }
-                one_plan(&g, tree, u64::MAX, tally);
+                one_plan(&g, kind, u64::MAX, tally);
             }
         }
     }
-    for _ in 0..50_000 * scale {
+    for _ in 0..times {
         let bad = r.below(20) == 0;
-        let g = geometry(r, bad);
+        let mut g = geometry(r, bad);
         let bits = r.below(65);
         let n = if bits == 0 {
             0
         } else {
             r.next() >> (64 - bits)
         };
-        one_plan(&g, r.pick(&Tree::BOTH), n, tally);
+        let kind = r.pick(of);
+        kinds::some_version(r, kind, &mut g);
+        one_plan(&g, kind, n, tally);
     }
 }
 
 /// A list of n records that is accepted; of the reverse map some that overlap,
 /// reserved owners and flags.
-pub fn list(r: &mut Random, tree: Tree, n: usize) -> Vec<u8> {
+pub fn list(r: &mut Random, kind: Kind, n: usize) -> Vec<u8> {
+    let tree = match kind {
+        Kind::Older(tree) => tree,
+        Kind::Free(order) => return bare::free_bytes(&free::accepted_list(r, order, n)),
+    };
     match tree {
         Tree::Rmap => {
             let wide = 3 * n as u64 + 10;
@@ -119,7 +131,7 @@ pub fn list(r: &mut Random, tree: Tree, n: usize) -> Vec<u8> {
 /// A build beside the original's with the links put in; what it wrote.
 pub fn one_build(
     g: &Geometry,
-    tree: Tree,
+    kind: Kind,
     list: &[u8],
     numbers: &[u32],
     room: usize,
@@ -127,14 +139,13 @@ pub fn one_build(
 ) -> Option<Vec<u8>> {
     let input = || {
         format!(
-            "build {g:?} {tree:?} room {room} numbers {numbers:?} list {}",
+            "build {g:?} {kind:?} room {room} numbers {numbers:?} list {}",
             hex(list)
         )
     };
-    let want = links::build(g, tree, list, numbers, room);
+    let want = links::build(g, kind, list, numbers, room);
     let mut out = Lent::<u8>::new(room);
-    let kind = library::kind(tree);
-    let got = library::build(&library::g(g), kind, list, numbers, out.part());
+    let got = library::build(&library::g(g), kind.number(), list, numbers, out.part());
     same(
         "build",
         &got,
@@ -146,16 +157,21 @@ pub fn one_build(
     let left = want.accepted();
     let due = left.as_deref().unwrap_or_default();
     bytes("build", "output", out.holds(due), &input);
-    tally.add("build", got.number);
+    tally.add_tree("build", kind, g, got.number);
     left
 }
 
 /// How many records a tree to try has: around full leaves and full nodes.
-pub fn sizes(r: &mut Random, g: &Geometry, tree: Tree) -> usize {
+pub fn sizes(r: &mut Random, g: &Geometry, kind: Kind) -> usize {
     // Block sizes past the largest are for question 1 alone.
     let size = g.block_size.min(4096) as usize;
-    let leaf = size.saturating_sub(56) / tree.record_len();
-    let node = size.saturating_sub(56) / tree.entry_len();
+    // On version 4 an older tree is refused, whatever its size.
+    let header = match kind {
+        Kind::Older(_) => 56,
+        Kind::Free(_) => header_len(g),
+    };
+    let leaf = size.saturating_sub(header) / kind.record_len();
+    let node = size.saturating_sub(header) / kind.entry_len();
     let around = |n: usize, r: &mut Random| (n + r.below(3) as usize).saturating_sub(1);
     match r.below(16) {
         0 => 0,
@@ -180,20 +196,21 @@ pub fn numbers(r: &mut Random, n: usize, most: usize) -> Vec<u32> {
     all
 }
 
-fn planned(g: &Geometry, tree: Tree, n: usize) -> Vec<u64> {
-    paper::plan(g, tree, n as u64)
+fn planned(g: &Geometry, kind: Kind, n: usize) -> Vec<u64> {
+    kinds::plan(g, kind, n as u64)
         .accepted()
         .unwrap_or_default()
 }
 
-/// What is to be built: geometry, tree, list and block numbers, right or not,
+/// What is to be built: geometry, kind, list and block numbers, right or not,
 /// and the bytes that the planned blocks take.
-pub fn to_build(r: &mut Random) -> (Geometry, Tree, Vec<u8>, Vec<u32>, usize) {
+pub fn to_build(r: &mut Random, of: &[Kind]) -> (Geometry, Kind, Vec<u8>, Vec<u32>, usize) {
     let bad = r.below(50) == 0;
-    let g = geometry(r, bad);
-    let tree = r.pick(&Tree::BOTH);
-    let n = sizes(r, &g, tree);
-    let mut list = list(r, tree, n);
+    let mut g = geometry(r, bad);
+    let kind = r.pick(of);
+    kinds::some_version(r, kind, &mut g);
+    let n = sizes(r, &g, kind);
+    let mut list = list(r, kind, n);
     match r.below(20) {
         0 if !list.is_empty() => {
             let at = r.below(list.len() as u64) as usize;
@@ -203,7 +220,7 @@ pub fn to_build(r: &mut Random) -> (Geometry, Tree, Vec<u8>, Vec<u32>, usize) {
         2 => list.push(0),
         _ => (),
     }
-    let total = planned(&g, tree, list.len() / tree.record_len())
+    let total = planned(&g, kind, list.len() / kind.record_len())
         .iter()
         .sum::<u64>() as usize;
     let mut given = match r.below(12) {
@@ -220,12 +237,16 @@ pub fn to_build(r: &mut Random) -> (Geometry, Tree, Vec<u8>, Vec<u32>, usize) {
         at[0] = at[1];
     }
     let exact = (total.min(100_000) as u64 * g.block_size.min(65536)) as usize;
-    (g, tree, list, at, exact)
+    (g, kind, list, at, exact)
 }
 
 pub fn builds(r: &mut Random, scale: u64, tally: &mut Tally) {
-    for _ in 0..15_000 * scale {
-        let (g, tree, list, at, exact) = to_build(r);
+    builds_of(r, &Kind::OLDER, 15_000 * scale, tally);
+}
+
+pub fn builds_of(r: &mut Random, of: &[Kind], times: u64, tally: &mut Tally) {
+    for _ in 0..times {
+        let (g, kind, list, at, exact) = to_build(r, of);
         let room = match r.below(8) {
             0 => exact.saturating_sub(1),
             1 => exact.saturating_sub(r.below(exact as u64 + 1) as usize),
@@ -233,7 +254,7 @@ pub fn builds(r: &mut Random, scale: u64, tally: &mut Tally) {
             3 => exact + 1 + r.below(600) as usize,
             _ => exact,
         };
-        one_build(&g, tree, &list, &at, room, tally);
+        one_build(&g, kind, &list, &at, room, tally);
     }
 }
 
@@ -250,7 +271,7 @@ pub struct Room {
 /// the tree is linked.
 pub fn one_walk(
     g: &Geometry,
-    tree: Tree,
+    kind: Kind,
     image: &[u8],
     root: u32,
     levels: u32,
@@ -263,7 +284,7 @@ pub fn one_walk(
         stack_places: room.stack,
         scratch_places: room.scratch,
     };
-    let want = paper::walk_blocks(g, tree, image, root, levels, &lent);
+    let want = kinds::walk_blocks(g, kind, image, root, levels, &lent);
     let linked = match &want.outcome {
         Outcome::Accepted(w) => links::linked(g, image, &w.blocks),
         _ => false,
@@ -271,19 +292,19 @@ pub fn one_walk(
     for w in Walk::BOTH {
         let input = || {
             format!(
-                "{} {g:?} {tree:?} root {root} levels {levels} {room:?} image {}",
+                "{} {g:?} {kind:?} root {root} levels {levels} {room:?} image {}",
                 w.name(),
                 hex(image)
             )
         };
         let mut m = Memory::new(room);
-        let got = m.walk(w, g, tree, image, root, levels);
-        let due = walk_figures(&want, tree, w.says(linked));
+        let got = m.walk(w, g, kind, image, root, levels);
+        let due = walk_figures(&want, kind, w.says(linked));
         same(w.name(), &got, due, &input);
         for (what, r) in m.left(&want) {
             bytes(w.name(), what, r, &input);
         }
-        tally.add(w.name(), got.number);
+        tally.add_tree(w.name(), kind, g, got.number);
     }
     let walked = want.outcome.accepted()?;
     tally.note(links::LINKED, if linked { "linked" } else { "not linked" });
@@ -291,8 +312,8 @@ pub fn one_walk(
 }
 
 /// Number and figures of a walk; `last` is the fourth of one that is done.
-pub fn walk_figures(a: &WalkAnswer, tree: Tree, last: u64) -> (u32, [u64; 4]) {
-    let width = tree.record_len() as u64;
+pub fn walk_figures(a: &WalkAnswer, kind: Kind, last: u64) -> (u32, [u64; 4]) {
+    let width = kind.record_len() as u64;
     let mut due = expect(&a.outcome, |w| {
         let n = w.records.len() as u64;
         [w.blocks.len() as u64, n / width, n, last]
@@ -325,7 +346,7 @@ impl Memory {
         &mut self,
         w: Walk,
         g: &Geometry,
-        tree: Tree,
+        kind: Kind,
         image: &[u8],
         root: u32,
         levels: u32,
@@ -333,7 +354,7 @@ impl Memory {
         library::walk(
             w,
             &library::g(g),
-            library::kind(tree),
+            kind.number(),
             image,
             root,
             levels,
@@ -365,7 +386,14 @@ impl Memory {
 }
 
 pub fn walks(r: &mut Random, scale: u64, tally: &mut Tally) {
-    for _ in 0..8_000 * scale {
+    walks_of(r, &Kind::OLDER, 8_000 * scale, tally);
+    shared_children(r, &Kind::OLDER, 300 * scale, tally);
+    tally.met_both(links::LINKED);
+}
+
+/// Trees built, stored, then walked whole, damaged or with less memory.
+pub fn walks_of(r: &mut Random, of: &[Kind], times: u64, tally: &mut Tally) {
+    for _ in 0..times {
         let mut g = geometry(r, false);
         g.version = 5;
         if !paper::geometry_holds(&g) {
@@ -374,14 +402,15 @@ pub fn walks(r: &mut Random, scale: u64, tally: &mut Tally) {
         if r.below(2) == 0 {
             g.block_size = 512;
         }
-        let tree = r.pick(&Tree::BOTH);
-        let n = sizes(r, &g, tree);
-        let list = list(r, tree, n);
-        let plan = planned(&g, tree, n);
+        let kind = r.pick(of);
+        kinds::some_version(r, kind, &mut g);
+        let n = sizes(r, &g, kind);
+        let list = list(r, kind, n);
+        let plan = planned(&g, kind, n);
         let total = plan.iter().sum::<u64>() as usize;
         let most = total + r.below(4) as usize;
         let at = numbers(r, total, most);
-        let Some(out) = one_build(&g, tree, &list, &at, total * g.block_size as usize, tally)
+        let Some(out) = one_build(&g, kind, &list, &at, total * g.block_size as usize, tally)
         else {
             continue;
         };
@@ -404,21 +433,23 @@ pub fn walks(r: &mut Random, scale: u64, tally: &mut Tally) {
         }
         for (i, &n) in at.iter().enumerate() {
             let mut b = out[i * size..(i + 1) * size].to_vec();
-            b[16..24].copy_from_slice(&address(&g, n).to_be_bytes());
-            b[48..52].copy_from_slice(&g.agno.to_be_bytes());
-            seal(&mut b);
+            if g.version == 5 {
+                b[16..24].copy_from_slice(&address(&g, n).to_be_bytes());
+                b[48..52].copy_from_slice(&g.agno.to_be_bytes());
+            }
+            seal(&g, &mut b);
             image[n as usize * size..][..size].copy_from_slice(&b);
         }
         let root = *at.last().expect("a root");
         let levels = plan.len() as u32;
-        let stack = 2 * levels as usize * paper::node_capacity(&g, tree) as usize;
+        let stack = 2 * levels as usize * kinds::node_capacity(&g, kind);
         let plenty = Room {
             stack: stack + r.below(3) as usize,
             scratch: total + 2,
             blocks: total + 1,
             bytes: list.len() + r.below(40) as usize,
         };
-        let whole = one_walk(&g, tree, &image, root, levels, plenty, tally);
+        let whole = one_walk(&g, kind, &image, root, levels, plenty, tally);
         assert!(
             whole.is_none_or(|(_, linked)| linked),
             "a built tree is linked"
@@ -435,32 +466,26 @@ pub fn walks(r: &mut Random, scale: u64, tally: &mut Tally) {
             6 => room.bytes = list.len().saturating_sub(1),
             _ => room.bytes = r.below(list.len() as u64 + 1) as usize,
         }
-        one_walk(&g, tree, &image, root, levels, room, tally);
-        // Another root, other levels, the other tree, another geometry.
-        let (mut g2, mut t2, mut root2, mut levels2) = (g, tree, root, levels);
+        one_walk(&g, kind, &image, root, levels, room, tally);
+        // Another root, other levels, another kind, another geometry.
+        let (mut g2, mut kind2, mut root2, mut levels2) = (g, kind, root, levels);
         match r.below(9) {
             0 => root2 = r.below(most as u64 + 2) as u32,
             1 => root2 = r.pick(&[u32::MAX, most as u32, 1 << 31]),
             2 => levels2 = levels + 1,
             3 => levels2 = levels - 1,
             4 => levels2 = r.pick(&[0, 10, u32::MAX, 9]),
-            5 => {
-                t2 = if tree == Tree::Rmap {
-                    Tree::Refcount
-                } else {
-                    Tree::Rmap
-                }
-            }
-            6 => g2.version = 4,
+            5 => kind2 = kind.other(r),
+            6 => g2.version = 9 - g.version,
             7 => g2.agno ^= 1,
             _ => g2 = geometry(r, true),
         }
         let mut room = plenty;
         room.stack = 2 * 10 * 200;
-        one_walk(&g2, t2, &image, root2, levels2, room, tally);
+        one_walk(&g2, kind2, &image, root2, levels2, room, tally);
         // A shorter image.
         let short = image.len() - r.below(size as u64 + 1) as usize;
-        one_walk(&g, tree, &image[..short], root, levels, plenty, tally);
+        one_walk(&g, kind, &image[..short], root, levels, plenty, tally);
         // Damage: a byte; or a field or a pointer, sealed again.
         for _ in 0..3 {
             let mut image = image.clone();
@@ -472,47 +497,48 @@ pub fn walks(r: &mut Random, scale: u64, tally: &mut Tally) {
                     b[i] ^= 1 << r.below(8);
                 }
                 1..=3 => {
-                    let i = r.below(56) as usize;
+                    let i = r.below(header_len(&g) as u64) as usize;
                     b[i] = r.next() as u8;
-                    seal(b);
+                    seal(&g, b);
                 }
                 _ => {
                     // Every pointer of a node to one block, to the node, or anywhere.
-                    let cap = paper::node_capacity(&g, tree) as usize;
-                    let keys = tree.entry_len() - 4;
                     let to = r.pick(&[n as u32, at[0], at[total / 2], root, most as u32, u32::MAX]);
                     let all = r.below(2) == 0;
                     if b[4..6] != [0, 0] {
                         let count = usize::from(b[6]) * 256 + usize::from(b[7]);
                         for i in 0..count {
                             if all || r.below(count as u64) == 0 {
-                                let p = 56 + cap * keys + 4 * i;
-                                b[p..p + 4].copy_from_slice(&to.to_be_bytes());
+                                links::put(b, pointer(&g, kind, i), to);
                             }
                         }
                     } else if all {
-                        let most = (size - 56) / tree.record_len();
+                        let most = (size - header_len(&g)) / kind.record_len();
                         let n = r.below(most as u64 + 2) as u16;
                         b[6..8].copy_from_slice(&n.to_be_bytes());
                     }
-                    seal(b);
+                    seal(&g, b);
                 }
             }
             let mut room = plenty;
             room.blocks += 100;
             room.scratch += 100;
             room.bytes += 3000;
-            one_walk(&g, tree, &image, root, levels, room, tally);
+            one_walk(&g, kind, &image, root, levels, room, tally);
         }
     }
-    // Nodes that share their children: far more visits than blocks.
-    for _ in 0..300 * scale {
+}
+
+/// Nodes that share their children: far more visits than blocks.
+pub fn shared_children(r: &mut Random, of: &[Kind], times: u64, tally: &mut Tally) {
+    for _ in 0..times {
         let mut g = geometry(r, false);
         (g.version, g.block_size, g.agno) = (5, 512, 0);
         g.agblocks = r.pick(&[0, 63, 64, 65, 200]);
-        let tree = r.pick(&Tree::BOTH);
+        let kind = r.pick(of);
+        kinds::some_version(r, kind, &mut g);
         let levels = 2 + r.below(4) as u32;
-        let cap = paper::node_capacity(&g, tree) as usize;
+        let cap = kinds::node_capacity(&g, kind);
         let sb = g.superblock();
         let mut image = vec![0; 512 * levels as usize];
         for level in 0..levels as usize {
@@ -524,13 +550,11 @@ pub fn walks(r: &mut Random, scale: u64, tally: &mut Tally) {
             };
             for i in 0..n {
                 if level > 0 {
-                    let p = 56 + cap * (tree.entry_len() - 4) + 4 * i;
-                    b[p..p + 4].copy_from_slice(&(level as u32 - 1).to_be_bytes());
+                    links::put(b, pointer(&g, kind, i), level as u32 - 1);
                 }
             }
             let (at, l) = (level as u32, level as u16);
-            oracle::ag_btree::reach::stamp(b, &sb, tree.shape(), g.agno, at, l, n as u16);
-            seal(b);
+            stamp(b, &sb, kind.shape(), g.agno, at, l, n as u16);
         }
         let room = Room {
             stack: 2 * levels as usize * cap,
@@ -538,19 +562,18 @@ pub fn walks(r: &mut Random, scale: u64, tally: &mut Tally) {
             blocks: r.pick(&[300, 300, 64, 65, 30]),
             bytes: r.pick(&[8000, 8000, 500]),
         };
-        let shared = one_walk(&g, tree, &image, levels - 1, levels, room, tally);
+        let shared = one_walk(&g, kind, &image, levels - 1, levels, room, tally);
         // A block met twice can't name two blocks before it.
         if let Some((w, linked)) = shared {
             assert_eq!(linked, w.blocks.len() == levels as usize, "{:?}", w.blocks);
         }
     }
-    tally.met_both(links::LINKED);
 }
 
 /// A walk over a small image, with what it is lent.
 pub struct SmallWalk {
     pub g: Geometry,
-    pub tree: Tree,
+    pub kind: Kind,
     pub image: Vec<u8>,
     pub root: u32,
     pub levels: u32,
@@ -561,19 +584,20 @@ pub struct SmallWalk {
 }
 
 /// A tree of a few blocks of 512 bytes, mostly damaged in some way.
-pub fn small_walk(r: &mut Random) -> SmallWalk {
+pub fn small_walk(r: &mut Random, of: &[Kind]) -> SmallWalk {
     let mut g = Geometry::v5(512);
     g.agblocks = r.pick(&[0, 70]);
     g.agno = r.below(3) as u32;
     g.meta_uuid = r.bytes(16).try_into().expect("16 bytes");
-    let tree = r.pick(&Tree::BOTH);
+    let kind = r.pick(of);
+    kinds::some_version(r, kind, &mut g);
     let n = r.below(80) as usize;
-    let list = list(r, tree, n);
-    let plan = planned(&g, tree, n);
+    let list = list(r, kind, n);
+    let plan = planned(&g, kind, n);
     let total = plan.iter().sum::<u64>() as usize;
     let most = total + 1;
     let at = numbers(r, total, most);
-    let out = links::build(&g, tree, &list, &at, total * 512)
+    let out = links::build(&g, kind, &list, &at, total * 512)
         .accepted()
         .expect("a tree");
     let mut image = vec![0x5A; most * 512];
@@ -584,8 +608,8 @@ pub fn small_walk(r: &mut Random) -> SmallWalk {
     let mut levels = plan.len() as u32;
     let mut w = SmallWalk {
         g,
-        tree,
-        stack: 2 * levels as usize * paper::node_capacity(&g, tree) as usize,
+        kind,
+        stack: 2 * levels as usize * kinds::node_capacity(&g, kind),
         scratch: total + 1,
         blocks: total + 1,
         bytes: list.len() + r.below(30) as usize,
@@ -596,7 +620,7 @@ pub fn small_walk(r: &mut Random) -> SmallWalk {
     let hurt = at[r.below(total as u64) as usize] as usize * 512;
     match r.below(26) {
         0 => {
-            w.g.version = 4;
+            w.g.version = 9 - g.version;
             w.stack += 100;
         }
         1 => w.g.version = 7,
@@ -612,29 +636,28 @@ pub fn small_walk(r: &mut Random) -> SmallWalk {
             w.stack *= 2;
         }
         10..=18 => {
-            let i = r.pick(&[0, 4, 5, 6, 7, 16, 23, 33, 48, 51]);
+            let fields = [0, 4, 5, 6, 7, 16, 23, 33, 48, 51];
+            // Those of version 4 end with the siblings.
+            let i = r.pick(&fields[..if g.version == 5 { 10 } else { 5 }]);
             image[hurt + i] ^= 1 << r.below(3);
-            seal(&mut image[hurt..hurt + 512]);
+            seal(&g, &mut image[hurt..hurt + 512]);
         }
         19 => image[hurt + r.below(512) as usize] ^= 4,
         20 | 21 => {
             // A tree of three levels whose nodes have one block as every child.
             (levels, root) = (3, 2);
             let children = r.pick(&[2, 9]);
-            let cap = paper::node_capacity(&g, tree) as usize;
             image = vec![0; 3 * 512];
             let sb = g.superblock();
             for (level, b) in image.chunks_exact_mut(512).enumerate() {
                 let n = if level == 0 { 1 } else { children };
                 for i in 0..if level == 0 { 0 } else { n } {
-                    let p = 56 + cap * (tree.entry_len() - 4) + 4 * i;
-                    b[p..p + 4].copy_from_slice(&(level as u32 - 1).to_be_bytes());
+                    links::put(b, pointer(&g, kind, i), level as u32 - 1);
                 }
                 let (at, l) = (level as u32, level as u16);
-                oracle::ag_btree::reach::stamp(b, &sb, tree.shape(), g.agno, at, l, n as u16);
-                seal(b);
+                stamp(b, &sb, kind.shape(), g.agno, at, l, n as u16);
             }
-            w.stack = 6 * cap;
+            w.stack = 6 * kinds::node_capacity(&g, kind);
             (w.blocks, w.scratch, w.bytes) = (100, 100, 2400);
         }
         22 | 23 => {
@@ -642,8 +665,8 @@ pub fn small_walk(r: &mut Random) -> SmallWalk {
             let i = hurt + r.pick(&[8, 12]);
             let any = r.next() as u32;
             let to = r.pick(&[at[0], root, links::NONE, any]);
-            image[i..i + 4].copy_from_slice(&to.to_be_bytes());
-            seal(&mut image[hurt..hurt + 512]);
+            links::put(&mut image, i, to);
+            seal(&g, &mut image[hurt..hurt + 512]);
         }
         _ => (),
     }

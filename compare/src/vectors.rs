@@ -5,13 +5,15 @@
 
 use crate::edits;
 use crate::held;
+use crate::kinds::{self, Kind};
 use crate::lent::hex;
 use crate::library::Edit;
 use crate::links;
 use crate::lookups::{self, Lookup};
 use crate::tally::{differ, Tally};
 use crate::trees;
-use kf::{Group, Kind, Refusal, Root};
+use kf::{Group, Refusal, Root};
+use oracle::alloc_btree::Order;
 use oracle::paper;
 use oracle::rmap::Rmap;
 use oracle::sample::Random;
@@ -19,10 +21,12 @@ use oracle::{Geometry, Tree};
 
 const MOST: usize = usize::MAX;
 
-fn kind(tree: Tree) -> Kind {
-    match tree {
-        Tree::Rmap => Kind::Rmap,
-        Tree::Refcount => Kind::Refcount,
+pub fn kind(kind: Kind) -> kf::Kind {
+    match kind {
+        Kind::Older(Tree::Rmap) => kf::Kind::Rmap,
+        Kind::Older(Tree::Refcount) => kf::Kind::Refcount,
+        Kind::Free(Order::ByBlock) => kf::Kind::ByBlock,
+        Kind::Free(Order::ByCount) => kf::Kind::BySize,
     }
 }
 
@@ -144,14 +148,9 @@ fn edits_of(map: Vec<u8>, counts: Vec<u8>, x: Rmap, tally: &mut Tally) {
     edited("Group::let_go", &group, gone, due, x, tally);
 }
 
-fn build(r: &mut Random, tally: &mut Tally) {
-    let (g, tree, list, numbers, _) = trees::to_build(r);
-    let mut group = Group::default();
-    match tree {
-        Tree::Rmap => group.map = list.clone(),
-        Tree::Refcount => group.counts = list.clone(),
-    }
-    let got = group.build(&geometry(&g), kind(tree), &numbers);
+pub fn build(r: &mut Random, of: &[Kind], tally: &mut Tally) {
+    let (g, tree, list, numbers, _) = trees::to_build(r, of);
+    let got = kf::Tree::build(&geometry(&g), kind(tree), &list, &numbers);
     let got = got.map_err(|refusal| refusal.number);
     let due = links::build(&g, tree, &list, &numbers, MOST);
     let due = match due.number() {
@@ -161,13 +160,13 @@ fn build(r: &mut Random, tally: &mut Tally) {
     if got != due {
         let input = format!("{g:?} {tree:?} numbers {numbers:?} list {}", hex(&list));
         let say = |o: &Result<Vec<u8>, u32>| format!("{o:02x?}");
-        differ("Group::build", "result", &say(&got), &say(&due), &input);
+        differ("Tree::build", "result", &say(&got), &say(&due), &input);
     }
-    tally.add("Group::build", got.err().unwrap_or(0));
+    tally.add("Tree::build", got.err().unwrap_or(0));
 }
 
-fn walk(r: &mut Random, tally: &mut Tally) {
-    let w = trees::small_walk(r);
+pub fn walk(r: &mut Random, of: &[Kind], tally: &mut Tally) {
+    let w = trees::small_walk(r, of);
     // What the layer has room for.
     let size = w.g.block_size as usize;
     let limit = w.g.agblocks.max(64) as usize;
@@ -177,7 +176,7 @@ fn walk(r: &mut Random, tally: &mut Tally) {
         block_places: most,
         ..paper::Lent::PLENTY
     };
-    let due = paper::walk_blocks(&w.g, w.tree, &w.image, w.root, w.levels, &lent);
+    let due = kinds::walk_blocks(&w.g, w.kind, &w.image, w.root, w.levels, &lent);
     let due = match due.outcome.number() {
         Some(n) => Err((u32::from(n), due.visits as usize)),
         None => {
@@ -187,14 +186,14 @@ fn walk(r: &mut Random, tally: &mut Tally) {
         }
     };
     let root = Root::new(w.root, w.levels, w.blocks as u32);
-    let got = kf::Tree::walk(&geometry(&w.g), kind(w.tree), &w.image, root)
+    let got = kf::Tree::walk(&geometry(&w.g), kind(w.kind), &w.image, root)
         .map(|t| (t.blocks, t.records, t.linked))
         .map_err(|refused| (refused.refusal.number, refused.visits));
     if got != due {
         let (say, image) = (format!("{got:02x?}"), hex(&w.image));
         let input = format!(
             "{:?} {:?} root {} levels {} blocks {} image {image}",
-            w.g, w.tree, w.root, w.levels, w.blocks
+            w.g, w.kind, w.root, w.levels, w.blocks
         );
         differ("Tree::walk", "result", &say, &format!("{due:02x?}"), &input);
     }
@@ -233,8 +232,8 @@ pub fn vectors(r: &mut Random, scale: u64, tally: &mut Tally) {
         tally.met_both(what);
     }
     for _ in 0..5_000 * scale {
-        build(r, tally);
-        walk(r, tally);
+        build(r, &Kind::OLDER, tally);
+        walk(r, &Kind::OLDER, tally);
     }
     for _ in 0..5_000 * scale {
         lookup(r, tally);

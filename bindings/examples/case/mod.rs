@@ -69,6 +69,8 @@ impl Case {
         let wanted = match kind {
             Kind::Rmap => "rmap",
             Kind::Refcount => "refcount",
+            Kind::ByBlock => "bno",
+            Kind::BySize => "cnt",
             _ => return Err(format!("no case file has trees of the kind {kind}").into()),
         };
         let tree = self.trees.iter().find(|(name, _)| name == wanted);

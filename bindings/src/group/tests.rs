@@ -308,9 +308,14 @@ fn any_bytes() {
         let blocksize = ends[random.below(8) as usize];
         for blocksize in [512, blocksize] {
             let g = Geometry::new(4 + random.below(3) as u16, blocksize, 9, 0, [0; 16]);
-            for kind in [Kind::Rmap, Kind::Refcount] {
+            for (kind, list) in [
+                (Kind::Rmap, &group.map),
+                (Kind::Refcount, &group.counts),
+                (Kind::ByBlock, &group.counts),
+                (Kind::BySize, &group.counts),
+            ] {
                 for numbers in [&[][..], &[1], &[1, 2]] {
-                    let answer = group.build(&g, kind, numbers);
+                    let answer = Tree::build(&g, kind, list, numbers);
                     assert_ne!(answer.map_err(|r| r.number), Err(18));
                 }
             }
@@ -348,15 +353,16 @@ fn any_root() {
         for blocksize in sizes {
             for (agblocks, blocks) in [(0, 0), (1, 1), (u32::MAX, u32::MAX)] {
                 for levels in [0, 1, 9, 10, u32::MAX] {
-                    for kind in [Kind::Rmap, Kind::Refcount] {
+                    for kind in [Kind::Rmap, Kind::Refcount, Kind::ByBlock, Kind::BySize] {
                         let g = Geometry::new(version, blocksize, agblocks, 0, [7; 16]);
                         let root = Root::new(0, levels, blocks);
                         let refused = Tree::walk(&g, kind, &image, root).unwrap_err();
+                        let older = matches!(kind, Kind::Rmap | Kind::Refcount);
                         let wanted = match (version, blocksize, levels) {
                             (4 | 5, 512 | 1024 | 65_536, 0 | 10..) => 11,
                             (4 | 5, 65_536, _) => 14,
-                            (4, 512 | 1024, _) => 3,
-                            (5, 512 | 1024, _) => 4,
+                            (4, 512 | 1024, _) if older => 3,
+                            (4 | 5, 512 | 1024, _) => 4,
                             _ => 1,
                         };
                         assert_eq!(refused.refusal.number, wanted, "{g:?} {root:?}");
@@ -394,13 +400,13 @@ fn built_and_walked() {
         group.counts.extend(r.to_bytes());
     }
     let (mut image, mut roots) = (vec![], vec![]);
-    for kind in [Kind::Rmap, Kind::Refcount] {
-        let plan = group.plan(&g, kind).unwrap();
+    for (kind, list) in [(Kind::Rmap, &group.map), (Kind::Refcount, &group.counts)] {
+        let plan = Tree::plan(&g, kind, list).unwrap();
         let from = (image.len() / 512) as u32;
         let numbers: Vec<u32> = (from..from + plan.total as u32).collect();
-        let too_few = group.build(&g, kind, &numbers[1..]).unwrap_err();
+        let too_few = Tree::build(&g, kind, list, &numbers[1..]).unwrap_err();
         assert_eq!(too_few.question(), Some(Question::BlockNumbers));
-        image.extend(group.build(&g, kind, &numbers).unwrap());
+        image.extend(Tree::build(&g, kind, list, &numbers).unwrap());
         roots.push(plan.root(&numbers).unwrap());
     }
     assert_eq!(Group::walk(&g, &image, roots[0], roots[1]), Ok(group));
@@ -420,16 +426,16 @@ fn more_than_the_first_room() {
         };
         r.to_bytes()
     });
-    let group = Group::new(records.collect(), vec![]);
-    let plan = group.plan(&g, Kind::Rmap).unwrap();
+    let map: Vec<u8> = records.collect();
+    let plan = Tree::plan(&g, Kind::Rmap, &map).unwrap();
     let numbers: Vec<u32> = (0..plan.total as u32).collect();
     assert!(numbers.len() * 512 > 4 * FIRST_ROOM);
-    let image = group.build(&g, Kind::Rmap, &numbers).unwrap();
+    let image = Tree::build(&g, Kind::Rmap, &map, &numbers).unwrap();
     let root = plan.root(&numbers).unwrap();
     for blocks in [root.blocks, u32::MAX] {
         let root = Root::new(root.root, root.levels, blocks);
         let tree = Tree::walk(&g, Kind::Rmap, &image, root).unwrap();
-        assert!(tree.records == group.map && tree.blocks == numbers && tree.linked);
+        assert!(tree.records == map && tree.blocks == numbers && tree.linked);
     }
     let short = Root::new(root.root, root.levels, root.blocks - 1);
     let refused = Tree::walk(&g, Kind::Rmap, &image, short).unwrap_err();
@@ -458,11 +464,10 @@ fn looked_up_as_counted() {
             })
             .collect();
         records.sort_by_key(|r| (r.startblock, r.owner));
-        let map = records.iter().flat_map(|r| r.to_bytes()).collect();
-        let group = Group::new(map, vec![]);
-        let plan = group.plan(&g, Kind::Rmap).unwrap();
+        let map: Vec<u8> = records.iter().flat_map(|r| r.to_bytes()).collect();
+        let plan = Tree::plan(&g, Kind::Rmap, &map).unwrap();
         let numbers: Vec<u32> = (0..plan.total as u32).collect();
-        let image = group.build(&g, Kind::Rmap, &numbers).unwrap();
+        let image = Tree::build(&g, Kind::Rmap, &map, &numbers).unwrap();
         let root = plan.root(&numbers).unwrap();
         let last = 4 * n as u32 + 2;
         let mut fewer = false;
@@ -504,8 +509,8 @@ fn looked_up_in_a_damaged_tree() {
         };
         r.to_bytes()
     });
-    let group = Group::new(records.collect(), vec![]);
-    let mut image = group.build(&g, Kind::Rmap, &[0, 1, 2, 3]).unwrap();
+    let map: Vec<u8> = records.collect();
+    let mut image = Tree::build(&g, Kind::Rmap, &map, &[0, 1, 2, 3]).unwrap();
     image[512] ^= 1;
     let root = Root::new(3, 2, 4);
     // The middle leaf has the records from 4 x 19 to 4 x 37, so blocks 76 to 149.

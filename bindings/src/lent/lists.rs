@@ -33,6 +33,69 @@ pub fn check_refcounts(list: &[u8]) -> Result<(), Refusal> {
     answer(n, &[0; 4], ())
 }
 
+/// Are they accepted free extents by block: does none start before the one in
+/// front of it ends? Questions 19 and 21.
+///
+/// ```
+/// let a = kf::FreeExtent { startblock: 4, blockcount: 2 };
+/// let b = kf::FreeExtent { startblock: 6, blockcount: 1 };
+/// assert!(kf::check_by_block(&[a.to_bytes(), b.to_bytes()].concat()).is_ok());
+/// let overlapping = kf::FreeExtent { startblock: 5, ..b };
+/// let list = [a.to_bytes(), overlapping.to_bytes()].concat();
+/// assert_eq!(kf::check_by_block(&list).unwrap_err().number, 21);
+/// assert_eq!(kf::check_by_block(&list[1..]).unwrap_err().number, 19);
+/// ```
+pub fn check_by_block(list: &[u8]) -> Result<(), Refusal> {
+    // SAFETY: a slice of bytes, which the call reads.
+    let n = unsafe { raw::kf_check_by_block(list.as_ptr(), list.len()) };
+    answer(n, &[0; 4], ())
+}
+
+/// Are they accepted free extents by size: do they ascend strictly by count,
+/// then start? Questions 19 and 21. Whether they overlap is not asked.
+///
+/// ```
+/// let a = kf::FreeExtent { startblock: 4, blockcount: 2 };
+/// let b = kf::FreeExtent { startblock: 6, blockcount: 1 };
+/// assert!(kf::check_by_size(&[b.to_bytes(), a.to_bytes()].concat()).is_ok());
+/// let list = [a.to_bytes(), b.to_bytes()].concat();
+/// assert_eq!(kf::check_by_size(&list).unwrap_err().number, 21);
+/// assert_eq!(kf::check_by_size(&list[1..]).unwrap_err().number, 19);
+/// ```
+pub fn check_by_size(list: &[u8]) -> Result<(), Refusal> {
+    // SAFETY: a slice of bytes, which the call reads.
+    let n = unsafe { raw::kf_check_by_size(list.as_ptr(), list.len()) };
+    answer(n, &[0; 4], ())
+}
+
+/// Do a list of free extents by block and one by size hold the same extents,
+/// equally often? Questions 19 and 21 on the first, then 19 and 21 on the
+/// second. Nothing is lent: each extent of either is searched in the other.
+///
+/// ```
+/// let a = kf::FreeExtent { startblock: 4, blockcount: 2 };
+/// let b = kf::FreeExtent { startblock: 9, blockcount: 1 };
+/// let by_block = [a.to_bytes(), b.to_bytes()].concat();
+/// let by_size = [b.to_bytes(), a.to_bytes()].concat();
+/// assert_eq!(kf::same_extents(&by_block, &by_size), Ok(true));
+/// assert_eq!(kf::same_extents(&by_block, &by_size[8..]), Ok(false));
+/// assert_eq!(kf::same_extents(&by_size, &by_size).unwrap_err().number, 21);
+/// ```
+pub fn same_extents(by_block: &[u8], by_size: &[u8]) -> Result<bool, Refusal> {
+    let mut said = [0; 4];
+    // SAFETY: two slices that the call reads, and four numbers that it writes.
+    let n = unsafe {
+        raw::kf_same_extents(
+            by_block.as_ptr(),
+            by_block.len(),
+            by_size.as_ptr(),
+            by_size.len(),
+            &mut said,
+        )
+    };
+    answer(n, &said, said[0] == 1)
+}
+
 type Edit = unsafe extern "C" fn(
     *const u8,
     usize,

@@ -263,17 +263,17 @@ impl<'a> Lent<'a> {
     /// ```
     /// let g = kf::Geometry::new(5, 4096, 100, 0, [7; 16]);
     /// assert_eq!(kf::Lent::stack_places(&g, kf::Kind::Rmap, 3), 2 * 3 * 91);
+    /// assert_eq!(kf::Lent::stack_places(&g, kf::Kind::ByBlock, 3), 2 * 3 * 336);
+    /// // A block of version 4 has a shorter header, and so more room.
+    /// let g = kf::Geometry::new(4, 4096, 100, 0, [7; 16]);
+    /// assert_eq!(kf::Lent::stack_places(&g, kf::Kind::ByBlock, 3), 2 * 3 * 340);
     /// ```
     pub fn stack_places(g: &Geometry, kind: Kind, levels: u32) -> usize {
         if !g.has_blocksize() || !(1..=9).contains(&levels) {
             return 0;
         }
         let header = if g.version == 5 { 56 } else { 16 };
-        let entry = match kind {
-            Kind::Rmap => 44,
-            Kind::Refcount => 8,
-        };
-        2 * levels as usize * ((g.blocksize as usize - header) / entry)
+        2 * levels as usize * ((g.blocksize as usize - header) / kind.entry_len())
     }
 
     /// The four, as given; the walk asks whether stack and scratch are long
