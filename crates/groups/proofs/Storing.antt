@@ -48,7 +48,7 @@ geometry-good = refl
 
 -- a list whose plan is one block
 one-block : (kind : TreeKind) (list : List ℕ) (lent : Lent) → levelsFor geometry kind list ≡ 1 → 1 ≡ sum (planOf (shapeOf geometry kind) list)
-    → LongEnough geometry kind list (0 ∷ []) lent → Stored kind list geometry (0 ∷ []) image 512 lent
+    → LongEnough list (0 ∷ []) lent → Stored kind list geometry (0 ∷ []) image 512 lent
 one-block kind list lent e f h =
     record {
       geometry = geometry-good;
@@ -64,7 +64,7 @@ one-block kind list lent e f h =
     }
 
 abbrev map-lent : Lent
-map-lent = record { stack = 20; scratch = 1; blocks = 1; bytes = 24 }
+map-lent = record { stack = 18; scratch = 1; blocks = 1; bytes = 24 }
 
 pub map-stored : Stored kind.Rmap (last-lists .map) geometry (0 ∷ []) image 512 map-lent
 unfolding headers.headerLen plan.ceil plan.leaves plan.above plan.levelsOf plan.sum bytes.beBytes records.fieldBytes records.bytesOf
@@ -76,7 +76,7 @@ map-back =
     subst (λ (τ : Lists). Returned kind.Rmap (τ .map)) (shares .left) (sharing-claim .map-returned) geometry (0 ∷ []) image 512 map-lent map-stored
 
 abbrev counts-lent : Lent
-counts-lent = record { stack = 114; scratch = 1; blocks = 1; bytes = 0 }
+counts-lent = record { stack = 18; scratch = 1; blocks = 1; bytes = 0 }
 
 -- no counts are left: the tree of none is one leaf without records
 pub counts-stored : Stored kind.Refcount [] geometry (0 ∷ []) image 512 counts-lent

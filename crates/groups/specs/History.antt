@@ -166,7 +166,7 @@ pub record Stored (kind : TreeKind) (list : List ℕ) (g : Geometry) (numbers im
   pub places : Places (g .blocksize) (length image) numbers
   pub limit : length numbers ≤ max (g .agblocks) 64
   pub room-left : length numbers * g .blocksize ≤ room
-  pub long : trip.LongEnough g kind list numbers lent
+  pub long : trip.LongEnough list numbers lent
 
 -- build accepts it, and the walk of the image, whatever else that holds, from the last block over the planned levels, returns the records byte
 -- for byte and the block numbers, both in order, in the planned number of visits, and every level is linked

@@ -19,7 +19,7 @@ use Rattle.trees.specs.Plan.{sum, leaves, above, levelsOf}
 use Rattle.trees.specs.BlockLayout.{Sound}
 use Rattle.walks.specs.Walk.{visitOf, Trace, run, fit, visits, records, Shape, perLeaf, perNode, lookIn}
 use Rattle.walks.specs.Shapes.{shapeOf}
-use Rattle.walks.specs.WalkCall.{walkIn}
+use Rattle.walks.specs.WalkCall.{stackPlaces, walkIn}
 use Rattle.trees.specs.Build.{planOf, build, rootOf, AreNumbers, Holds}
 use Rattle.trees.specs.BuildCall.{layoutOf, buildQuestions, builtBytes, buildOutcome}
 use Rattle.trees.specs.RoundTrip.{levelsFor}
@@ -91,7 +91,7 @@ every-built g list numbers bytes image room m st long =
       v,
       (
         record {
-          walked = rw (ok, le-leb 1 levels some, le-leb levels 9 few, le-leb (2 * levels * perNode sh) (m .stack) (long .stack), le-leb (m .blocks) (m .scratch) (long .scratch), fit-same);
+          walked = rw (ok, le-leb 1 levels some, le-leb levels 9 few, le-leb stackPlaces (m .stack) (long .stack), le-leb (m .blocks) (m .scratch) (long .scratch), fit-same);
           ended = back .ended;
           order = ap (λ (l : List ℕ). accepted (recordsOf rmaps l)) (back .in-order) ∙ order;
           keys =

@@ -17,19 +17,20 @@ use Rattle.codec.proofs.Meaning.{done-means}
 use Rattle.blocks.specs.declared.geometry.Geometry.{Geometry}
 use Rattle.blocks.specs.declared.kind.TreeKind.the-variants as kind
 use Rattle.blocks.specs.Geometry.{geometryOk}
-use Rattle.walks.specs.Walk.{Visit, visitOf, Look, good, Trace, finished, run, visits, records, ending, Shape, perNode, blockIn, pointers, firstPointer, lookIn}
+use Rattle.walks.specs.Walk.{Visit, visitOf, Look, good, Trace, finished, run, visits, records, ending, Shape, blockIn, pointers, firstPointer, lookIn}
 use Rattle.walks.specs.Shapes.{shapeOf}
 use Rattle.walks.specs.Path.{childAt, fanOf}
 use Rattle.walks.specs.Forest.{Forest, empty, tree, roots, blocksIn, bytesIn, Stands, through, sizeOf}
-use Rattle.walks.specs.WalkCall.{walkIn, walkQuestions}
+use Rattle.walks.specs.WalkCall.{stackPlaces, walkIn, walkQuestions}
 use Rattle.walks.proofs.ForestLaws.{Finished, walk-whole, through-visits, through-records, forest-of}
 use Rattle.walks.proofs.DescendLaws.{Looked, looked}
 use Rattle.walks.proofs.WalkMeaning.{look-whole}
 use Rattle.walks.proofs.FinishedWalks.{fit-finished}
+use Rattle.walks.proofs.StackSizes.{larger-same, accepted-same}
 use Rattle.trees.proofs.BuiltReturned.{finished-after}
 use Rattle.lists.specs.Holders.{holders}
-use Rattle.lookup.specs.Lookup.{keptFrom, without, keeps, lowStart, highStart, lookAsked, descentOf, lookupOf, tallies, answersAfter}
-use Rattle.lookup.specs.Claims.{Theirs, recordsUnder, ChildKeys, KeysTheirs, times, EveryLookup}
+use Rattle.lookup.specs.Lookup.{keptFrom, without, keeps, lowStart, highStart, lookAsked, stackAlone, descentOf, lookupOf, tallies, answersAfter}
+use Rattle.lookup.specs.Claims.{Theirs, recordsUnder, ChildKeys, KeysTheirs, times, EveryLookup, EveryLookupStack, EveryAcceptedLookup}
 use Rattle.lookup.proofs.Pruned.{pruned, pruned-roots, pruned-size, pruned-times, pruned-stands}
 use Rattle.lookup.proofs.Keyed.{Rising, accepted-rising, Among, theirs-none, recordsIn, Whole, records-in, pruned-whole, Keyed, pruned-holders, tallies-same}
 
@@ -210,7 +211,7 @@ unfolding walkIn
 every-lookup g image root levels m t places asked answers h q =
     let limit : ℕ = max (g .agblocks) 64 in
     let sh : Shape = shapeOf g kind.Rmap in
-    let k = done-means (walkQuestions g kind.Rmap levels m) (walkIn sh image root levels limit (m .blocks) (m .bytes)) t (h .walked) in
+    let k = done-means (walkQuestions g levels m) (walkIn sh image root levels limit (m .blocks) (m .bytes)) t (h .walked) in
     let ok : geometryOk g ≡ true = k .0 .0 in
     let some : (leb 1 levels && leb levels 9) ≡ true = k .0 .1 .0 in
     let r : Trace = run (lookIn sh image) limit (visitOf root (levels - 1) ∷ []) in
@@ -221,7 +222,7 @@ every-lookup g image root levels m t places asked answers h q =
     (subst (λ (x : Trace). KeysTheirs sh image limit (visits x)) (sym same) (h .keys)) in
     let u : Trace = descentOf asked sh image root levels limit in
     let is : lookupOf g image root levels places asked answers ≡ done u =
-    rw (ok, some, le-leb (2 * levels * perNode sh) places (q .stack), q .order, le-leb (length asked) answers (q .fits)) in
+    rw (ok, some, le-leb stackPlaces places (q .stack), q .order, le-leb (length asked) answers (q .fits)) in
     record {
       descent = u;
       admitted = is;
@@ -232,3 +233,11 @@ every-lookup g image root levels m t places asked answers h q =
           ∙ ap (withBytes l 0) (d .answers ∙ ap (λ (x : Trace). tallies (recordsOf rmaps (records x)) asked) same);
       visited = λ b. subst (λ (x : Trace). times b (visits u) ≤ times b (visits x)) same (d .visited b);
     }
+
+-- ---- on nine pairs in the place of a larger stack
+
+pub every-lookup-stack : EveryLookupStack
+every-lookup-stack g image root levels places larger asked room p q = larger-same g kind.Rmap levels (stackAlone places) larger _ p q
+
+pub every-accepted-lookup : EveryAcceptedLookup
+every-accepted-lookup g image root levels places asked room h = accepted-same g kind.Rmap levels (stackAlone places) _ h

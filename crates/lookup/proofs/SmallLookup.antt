@@ -32,7 +32,8 @@ use Rattle.lists.specs.Extent as extent
 use Rattle.lists.specs.Holders as holder
 use Rattle.lookup.specs.Lookup as lookup
 use Rattle.lookup.specs.Lookup.{tallies, lookupOf, answersAfter}
-use Rattle.lookup.specs.Claims.{Searchable, Askable, Standing}
+use Rattle.lookup.specs.Claims.{Searchable, Askable, Standing, largerLookupOf}
+use Rattle.lookup.proofs.Looked.{every-lookup-stack, every-accepted-lookup}
 use Rattle.lookup.proofs.Built.{every-built, every-built-lookup}
 
 -- from block b on, at every fourth block two records: two blocks of owner 7, and three of owner 9
@@ -69,10 +70,10 @@ standing =
 
 -- what is lent to a walk: 12's stack and scratch, and lists as long as needed
 abbrev pub room : Lent
-room = record { stack = 40; scratch = 3; blocks = 3; bytes = 480 }
+room = record { stack = 18; scratch = 3; blocks = 3; bytes = 480 }
 
-long-enough : LongEnough small kind.Rmap list numbers room
-unfolding shared bytes.beBytes records.fieldBytes records.bytesOf tree.headerLen plan.ceil plan.leaves plan.above plan.levelsOf
+long-enough : LongEnough list numbers room
+unfolding shared bytes.beBytes records.fieldBytes records.bytesOf
 long-enough = record { stack = omega arith; scratch = omega arith; blocks = omega arith; bytes = omega arith }
 
 -- before the records; in the first leaf where two lie, where one lies and where none lies; in the second the last block; and past it
@@ -83,8 +84,8 @@ asked = 3 ∷ 4 ∷ 6 ∷ 7 ∷ 42 ∷ 43 ∷ []
 abbrev pub counts : List ℕ
 counts = 0 ∷ 2 ∷ 1 ∷ 0 ∷ 1 ∷ 0 ∷ []
 
-askable : Askable small 2 40 asked 6
-unfolding tree.headerLen lookup.ascending
+askable : Askable 18 asked 6
+unfolding lookup.ascending
 askable = record { stack = omega arith; order = refl; fits = omega arith }
 
 counted : tallies (recordsOf rmaps list) asked ≡ counts
@@ -98,10 +99,19 @@ small-searchable = every-built small list numbers (builtBytes small kind.Rmap li
 
 -- the lookup is accepted, it finishes, and its answers are the counts
 pub small-lookup : (d : Trace)
-    × (lookupOf small image 2 2 40 asked 6 ≡ done d)
+    × (lookupOf small image 2 2 18 asked 6 ≡ done d)
     × (ending d ≡ finished)
-    × ((l : List ℕ) → answersAfter asked (lookupOf small image 2 2 40 asked 6) l ≡ bytes.withBytes l 0 counts)
+    × ((l : List ℕ) → answersAfter asked (lookupOf small image 2 2 18 asked 6) l ≡ bytes.withBytes l 0 counts)
 unfolding shared bytes.beBytes records.fieldBytes records.bytesOf tree.headerLen plan.ceil plan.leaves plan.above plan.levelsOf
 small-lookup =
-    let a = every-built-lookup small list numbers (builtBytes small kind.Rmap list numbers) image 1536 room 40 asked 6 standing long-enough askable .3 in
+    let a = every-built-lookup small list numbers (builtBytes small kind.Rmap list numbers) image 1536 room 18 asked 6 standing long-enough askable .3 in
     (a .descent, a .admitted, a .finishes, λ l. a .answers l ∙ ap (bytes.withBytes l 0) counted)
+
+-- nor was it another on the 40 places that two levels took before: on them 12 did not refuse it
+pub small-before : lookupOf small image 2 2 18 asked 6 ≡ largerLookupOf small image 2 2 40 asked 6
+unfolding tree.headerLen
+small-before = every-lookup-stack small image 2 2 18 40 asked 6 (omega arith) (omega arith)
+
+pub small-accepted : lookupOf small image 2 2 40 asked 6 ≡ largerLookupOf small image 2 2 40 asked 6
+unfolding tree.headerLen geometry.isVersion geometry.isBlockSize geometry.geometryOk lookup.ascending
+small-accepted = every-accepted-lookup small image 2 2 40 asked 6 (λ e. let z : _≡_ {A = ℕ} 0 1 = cc e in absurd (omega arith))

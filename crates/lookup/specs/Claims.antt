@@ -1,29 +1,30 @@
 -- What is claimed of every lookup, in any tree that the walk accepts and in one that was built.
--- The statements are `EveryLookup`, `EveryBuilt` and `EveryBuiltLookup`; what they speak of stands before them. proofs/Looked.antt and
--- proofs/Built.antt prove them, and proofs/SmallLookup.antt has a tree that meets their premises.
+-- The statements are `EveryLookup`, `EveryBuilt`, `EveryBuiltLookup`, `EveryLookupStack` and `EveryAcceptedLookup`; what they speak of stands before them.
+-- proofs/Looked.antt and proofs/Built.antt prove them, and proofs/SmallLookup.antt has a tree that meets their premises.
 -- Assumes nothing.
-use Prim.Native.Nat.{ℕ, _+_, _-_, _*_, _≤_, _<_, max}
+use Prim.Native.Nat.{ℕ, _+_, _-_, _≤_, _<_, max}
 use mathlib.Core.Path.{_≡_}
 use mathlib.Core.Bool.{true, cond}
 use mathlib.Core.List.{List, [], _∷_}
 use lib.Dec.{eqb}
 use lib.ListN.{length}
 use Rattle.codec.specs.Bytes.{IsBytes, withBytes}
-use Rattle.codec.specs.Question.{Outcome, done}
+use Rattle.codec.specs.Question.{none, Outcome, done, refused}
 use Rattle.codec.specs.Records.{recordsOf, rmaps}
 use Rattle.codec.specs.Rmaps.{accepted}
 use Rattle.codec.specs.declared.rmap.Rmap.{Rmap}
 use Rattle.blocks.specs.declared.geometry.Geometry.{Geometry}
 use Rattle.blocks.specs.declared.kind.TreeKind.the-variants as kind
 use Rattle.blocks.specs.Geometry.{Fits}
-use Rattle.walks.specs.Walk.{Visit, Trace, finished, run, visits, records, ending, Shape, perNode, blockIn, lookIn}
+use Rattle.walks.specs.Walk.{Visit, Trace, finished, run, visits, records, ending, Shape, blockIn, lookIn}
 use Rattle.walks.specs.Shapes.{shapeOf}
 use Rattle.walks.specs.Path.{childAt, fanOf}
-use Rattle.walks.specs.WalkCall.{Lent, walkOf}
+use Rattle.walks.specs.WalkCall.{Lent, stackPlaces, walkOf}
+use Rattle.walks.specs.LargerStack.{largerStack}
 use Rattle.trees.specs.Build.{rootOf, AreNumbers, Holds}
 use Rattle.trees.specs.BuildCall.{buildOutcome}
 use Rattle.trees.specs.RoundTrip.{levelsFor, LongEnough}
-use Rattle.lookup.specs.Lookup.{ascending, lowStart, highStart, lookupOf, tallies, answersAfter}
+use Rattle.lookup.specs.Lookup.{ascending, lowStart, highStart, lookupWith, lookupOf, tallies, answersAfter}
 
 -- ---- keys that are theirs, on the starts alone
 
@@ -69,8 +70,8 @@ pub record Searchable (g : Geometry) (image : List ℕ) (root levels : ℕ) (m :
   pub keys : KeysTheirs (shapeOf g kind.Rmap) image (max (g .agblocks) 64) (visits t)
 
 -- what 12 and 29 ask
-pub record Askable (g : Geometry) (levels places : ℕ) (asked : List ℕ) (room : ℕ) : Type 0 where
-  pub stack : 2 * levels * perNode (shapeOf g kind.Rmap) ≤ places
+pub record Askable (places : ℕ) (asked : List ℕ) (room : ℕ) : Type 0 where
+  pub stack : stackPlaces ≤ places
   pub order : ascending asked ≡ true
   pub fits : length asked ≤ room
 
@@ -87,7 +88,7 @@ abbrev pub EveryLookup : Type 0
 EveryLookup =
     (g : Geometry) (image : List ℕ) (root levels : ℕ) (m : Lent) (t : Trace) (places : ℕ) (asked : List ℕ) (room : ℕ)
     → Searchable g image root levels m t
-    → Askable g levels places asked room
+    → Askable places asked room
     → Agrees (recordsOf rmaps (records t)) (visits t) asked (lookupOf g image root levels places asked room)
 
 -- ---- in a tree that was built
@@ -106,7 +107,7 @@ abbrev pub EveryBuilt : Type 0
 EveryBuilt =
     (g : Geometry) (list numbers bytes image : List ℕ) (out : ℕ) (m : Lent)
     → Standing g list numbers bytes image out
-    → LongEnough g kind.Rmap list numbers m
+    → LongEnough list numbers m
     → (t : Trace) × (Searchable g image (rootOf numbers) (levelsFor g kind.Rmap list) m t × (records t ≡ list))
 
 -- so a lookup in it counts over the list that was built
@@ -114,9 +115,30 @@ abbrev pub EveryBuiltLookup : Type 0
 EveryBuiltLookup =
     (g : Geometry) (list numbers bytes image : List ℕ) (out : ℕ) (m : Lent) (places : ℕ) (asked : List ℕ) (room : ℕ)
     → Standing g list numbers bytes image out
-    → LongEnough g kind.Rmap list numbers m
-    → Askable g (levelsFor g kind.Rmap list) places asked room
+    → LongEnough list numbers m
+    → Askable places asked room
     → (t : Trace)
     × (walkOf g kind.Rmap image (rootOf numbers) (levelsFor g kind.Rmap list) m ≡ done t)
     × (ending t ≡ finished)
     × Agrees (recordsOf rmaps list) (visits t) asked (lookupOf g image (rootOf numbers) (levelsFor g kind.Rmap list) places asked room)
+
+-- ---- on nine pairs in the place of a larger stack
+
+-- the lookup that asks for the larger stack, as 12 did before
+abbrev pub largerLookupOf : Geometry → List ℕ → ℕ → ℕ → (places : ℕ) → List ℕ → (room : ℕ) → Outcome Trace
+largerLookupOf g image root levels places asked room = lookupWith (largerStack g kind.Rmap levels) g image root levels places asked room
+
+-- on nine pairs or more a lookup comes to what it comes to on a stack as large as the larger one; its answer, its visits and the answers that it leaves
+-- go by what it comes to alone (`LookupIs`)
+abbrev pub EveryLookupStack : Type 0
+EveryLookupStack =
+    (g : Geometry) (image : List ℕ) (root levels places larger : ℕ) (asked : List ℕ) (room : ℕ)
+    → stackPlaces ≤ places → largerStack g kind.Rmap levels ≤ larger
+    → lookupOf g image root levels places asked room ≡ largerLookupOf g image root levels larger asked room
+
+-- so each lookup that 12 did not refuse before comes to the same
+abbrev pub EveryAcceptedLookup : Type 0
+EveryAcceptedLookup =
+    (g : Geometry) (image : List ℕ) (root levels places : ℕ) (asked : List ℕ) (room : ℕ)
+    → (largerLookupOf g image root levels places asked room ≡ refused 12 none → ⊥)
+    → lookupOf g image root levels places asked room ≡ largerLookupOf g image root levels places asked room

@@ -15,7 +15,7 @@ use Rattle.blocks.specs.declared.kind.TreeKind.the-variants as kind
 use Rattle.walks.specs.Memory.{zeros}
 use Rattle.walks.specs.Walk.{Visit, visitOf, Look, bad, good, Trace, run, records, Shape, blockIn, lookIn}
 use Rattle.walks.specs.Shapes.{shapeOf}
-use Rattle.walks.specs.WalkCall.{Lent, walkQuestions, ifFinished}
+use Rattle.walks.specs.WalkCall.{Lent, stackPlaces, firstQuestions, ifFinished}
 use Rattle.lists.specs.Holders.{holders}
 
 -- ---- the numbers
@@ -69,20 +69,24 @@ lookAsked asked s image v = without (keeps asked s (blockIn (s .size) image (v .
 abbrev pub stackAlone : ℕ → Lent
 stackAlone places = record { stack = places; scratch = 0; blocks = 0; bytes = 0 }
 
--- the walk's own 1, 11 and 12, with no lists lent, and 29: for a stack of so many places, and so many places for answers
-abbrev pub lookupQuestions : Geometry → ℕ → ℕ → List ℕ → ℕ → List Question
-lookupQuestions g levels places asked room =
-    walkQuestions g kind.Rmap levels (stackAlone places) ++ (ask 29 (ascending asked && leb (length asked) room) ∷ [])
+-- the walk's own 1, 11 and 12, with no lists lent, and 29: where so many places of the stack are needed, on a stack of so many, with so many for answers
+abbrev pub lookupQuestions : (needed : ℕ) → Geometry → ℕ → (places : ℕ) → List ℕ → (room : ℕ) → List Question
+lookupQuestions needed g levels places asked room =
+    firstQuestions needed g levels (stackAlone places) ++ (ask 29 (ascending asked && leb (length asked) room) ∷ [])
 
 -- the descent of a tree from its root, of at most limit visits
 unfoldable pub descentOf : List ℕ → Shape → List ℕ → ℕ → ℕ → ℕ → Trace
 descentOf asked s image root levels limit = run (lookAsked asked s image) limit (visitOf root (levels - 1) ∷ [])
 
 -- the questions, then the descent, of at most max(agblocks, 64) visits
-abbrev pub lookupOf : Geometry → List ℕ → ℕ → ℕ → ℕ → List ℕ → ℕ → Outcome Trace
-lookupOf g image root levels places asked room =
-    answer (lookupQuestions g levels places asked room)
+abbrev pub lookupWith : (needed : ℕ) → Geometry → List ℕ → ℕ → ℕ → (places : ℕ) → List ℕ → (room : ℕ) → Outcome Trace
+lookupWith needed g image root levels places asked room =
+    answer (lookupQuestions needed g levels places asked room)
     (done (descentOf asked (shapeOf g kind.Rmap) image root levels (max (g .agblocks) 64)))
+
+-- 12 asks for nine pairs, as a walk's does
+abbrev pub lookupOf : Geometry → List ℕ → ℕ → ℕ → (places : ℕ) → List ℕ → (room : ℕ) → Outcome Trace
+lookupOf g image root levels places asked room = lookupWith stackPlaces g image root levels places asked room
 
 -- the answers afterwards: one for each number and those past them as they were; zeros where 13 or a later question refused; 1, 11, 12 and 29 touch nothing
 abbrev pub answersAfter : List ℕ → Outcome Trace → List ℕ → List ℕ

@@ -16,7 +16,6 @@ use crate::refusal::LookupRefusal;
 use crate::tally::sum_up;
 use blocks::geometry::AgBlock;
 use blocks::geometry::Geometry;
-use blocks::kind::TreeKind;
 use walks::first::First;
 use walks::first::ask_first;
 use walks::first::limit_of;
@@ -86,7 +85,7 @@ pub fn lookup(
         (length (now (answers .entry)))) r (now (stack .entry)) (now (stack .exit)) (now (answers .entry)) (now (answers .exit)) ⌝ }
 {
     // no lists are lent
-    let first = ask_first(g, TreeKind::Rmap, levels, stack.len(), 0, 0);
+    let first = ask_first(g, levels, stack.len(), 0, 0);
     if let First::Refused(refusal) = first {
         return LookedUp::Refused {
             refusal: LookupRefusal::Walk(refusal),

@@ -17,8 +17,8 @@ use Rattle.blocks.specs.declared.kind.TreeKind.{TreeKind}
 use Rattle.blocks.specs.Geometry.{geometryOk, Fits}
 use Rattle.blocks.specs.Tree.{hasTree, recordLen}
 use Rattle.trees.specs.Plan.{sum, levelsOf}
-use Rattle.walks.specs.Walk.{Shape, perNode, Trace, finished, spent, failed, met, visitOf, run, fit, visits, records, ending, byLevel, lookIn}
-use Rattle.walks.specs.WalkCall.{Lent, reportOf, ifFinished, walkIn, report, blocksAfter, recordsAfter}
+use Rattle.walks.specs.Walk.{Shape, Trace, finished, spent, failed, met, visitOf, run, fit, visits, records, ending, byLevel, lookIn}
+use Rattle.walks.specs.WalkCall.{Lent, stackPlaces, reportOf, ifFinished, walkIn, report, blocksAfter, recordsAfter}
 use Rattle.walks.specs.Memory.{zeros}
 use Rattle.walks.specs.Links.{leftsibOf, rightsibOf, levelsLinked, saysLinked}
 use Rattle.trees.specs.BlockLayout.{Sound}
@@ -91,7 +91,7 @@ module _
 
     -- what was built is returned from any image that holds it at the numbers given, whatever else the image holds
     pub round-trip : (image : List ℕ) (m : Lent) → Holds (g .blocksize) image numbers bytes → length numbers ≤ max (g .agblocks) 64
-        → LongEnough g kind list numbers m → Returned g kind list numbers image m
+        → LongEnough list numbers m → Returned g kind list numbers image m
     unfolding walkIn
     round-trip image m held within long =
         let levels : ℕ = levelsFor g kind list in
@@ -105,7 +105,7 @@ module _
         let fit-same : fit (m .blocks) (m .bytes) v ≡ v = back .fits (m .blocks) (m .bytes) (long .blocks) (long .bytes) in
         let some : 1 ≤ levels = plan-some g kind list in
         let is : walkBack g kind list numbers image m ≡ done v =
-        rw (ok, le-leb 1 levels some, le-leb levels 9 few, le-leb (2 * levels * perNode sh) (m .stack) (long .stack), le-leb (m .blocks) (m .scratch) (long .scratch), fit-same) in
+        rw (ok, le-leb 1 levels some, le-leb levels 9 few, le-leb stackPlaces (m .stack) (long .stack), le-leb (m .blocks) (m .scratch) (long .scratch), fit-same) in
         record {
           reported =
               ap (report (recordLen kind)) is
@@ -128,7 +128,7 @@ module _
 
     -- and from any image in which it was stored at distinct numbers
     pub stored-returned : (image : List ℕ) (m : Lent) → Places (g .blocksize) (length image) numbers → length numbers ≤ max (g .agblocks) 64
-        → LongEnough g kind list numbers m → Returned g kind list numbers (stored (g .blocksize) image numbers bytes) m
+        → LongEnough list numbers m → Returned g kind list numbers (stored (g .blocksize) image numbers bytes) m
     stored-returned image m places within long =
         round-trip (stored (g .blocksize) image numbers bytes) m (stored-held (g .blocksize) image numbers bytes built-length places .0) within long
 

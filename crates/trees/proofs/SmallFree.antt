@@ -60,16 +60,16 @@ by-size-built : buildOutcome small kind.BySize by-size numbers 1536 ≡ done (bu
 unfolding buildOutcome spread bytes.beOf bytes.beBytes records.fieldsOf records.fieldBytes records.firstRecords records.recordsOf records.bytesOf accepted.whole accepted.inOrder free.good free.smaller free.follows geometry.isVersion geometry.isBlockSize geometry.geometryOk tree.headerLen plan.ceil plan.leaves plan.above plan.levelsOf plan.sum
 by-size-built = refl
 
--- what is lent: 12's stack for two levels of 41 or 38 entries a node, its scratch, and lists as long as needed
+-- what is lent: 12's stack and scratch, and lists as long as needed
 abbrev room : Lent
-room = record { stack = 164; scratch = 3; blocks = 3; bytes = 504 }
+room = record { stack = 18; scratch = 3; blocks = 3; bytes = 504 }
 
-by-block-long : LongEnough four kind.ByBlock by-block numbers room
-unfolding spread bytes.beBytes records.fieldBytes records.bytesOf tree.headerLen plan.ceil plan.leaves plan.above plan.levelsOf
+by-block-long : LongEnough by-block numbers room
+unfolding spread bytes.beBytes records.fieldBytes records.bytesOf
 by-block-long = record { stack = omega arith; scratch = omega arith; blocks = omega arith; bytes = omega arith }
 
-by-size-long : LongEnough small kind.BySize by-size numbers room
-unfolding spread bytes.beBytes records.fieldBytes records.bytesOf tree.headerLen plan.ceil plan.leaves plan.above plan.levelsOf
+by-size-long : LongEnough by-size numbers room
+unfolding spread bytes.beBytes records.fieldBytes records.bytesOf
 by-size-long = record { stack = omega arith; scratch = omega arith; blocks = omega arith; bytes = omega arith }
 
 -- an image of three blocks, in which a tree is stored

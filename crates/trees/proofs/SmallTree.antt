@@ -79,10 +79,10 @@ small-places =
 
 -- what is lent: 12's stack and scratch, and lists as long as needed
 abbrev pub room : Lent
-room = record { stack = 228; scratch = 3; blocks = 3; bytes = 468 }
+room = record { stack = 18; scratch = 3; blocks = 3; bytes = 468 }
 
-long-enough : LongEnough small kind.Refcount list numbers room
-unfolding counted bytes.beBytes records.fieldBytes records.bytesOf tree.headerLen plan.ceil plan.leaves plan.above plan.levelsOf
+long-enough : LongEnough list numbers room
+unfolding counted bytes.beBytes records.fieldBytes records.bytesOf
 long-enough = record { stack = omega arith; scratch = omega arith; blocks = omega arith; bytes = omega arith }
 
 -- it comes back

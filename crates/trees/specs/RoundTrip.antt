@@ -1,7 +1,7 @@
 -- What it is for a walk to return a built tree, and the claim that it returns every one. The statement is `EveryTree`; proofs/BuiltReturned.antt proves it, and
 -- proofs/SmallTree.antt and proofs/SmallFree.antt have trees that meet its premises.
 -- Assumes nothing.
-use Prim.Native.Nat.{ℕ, _*_, _/_, _≤_, max}
+use Prim.Native.Nat.{ℕ, _/_, _≤_, max}
 use mathlib.Core.Path.{_≡_}
 use mathlib.Core.Bool.{true}
 use mathlib.Core.List.{List}
@@ -12,8 +12,8 @@ use Rattle.blocks.specs.declared.geometry.Geometry.{Geometry}
 use Rattle.blocks.specs.declared.kind.TreeKind.{TreeKind}
 use Rattle.blocks.specs.Geometry.{Fits}
 use Rattle.blocks.specs.Tree.{recordLen}
-use Rattle.walks.specs.Walk.{Trace, perNode}
-use Rattle.walks.specs.WalkCall.{Lent, walkOf, report, blocksAfter, recordsAfter}
+use Rattle.walks.specs.Walk.{Trace}
+use Rattle.walks.specs.WalkCall.{Lent, stackPlaces, walkOf, report, blocksAfter, recordsAfter}
 use Rattle.walks.specs.Links.{saysLinked}
 use Rattle.trees.specs.Build.{planOf, rootOf, AreNumbers, Places, stored}
 use Rattle.trees.specs.BuildCall.{buildOutcome}
@@ -24,8 +24,8 @@ abbrev pub levelsFor : Geometry → TreeKind → List ℕ → ℕ
 levelsFor g kind list = length (planOf (shapeOf g kind) list)
 
 -- lists long enough for the records and the blocks, with 12's scratch
-pub record LongEnough (g : Geometry) (kind : TreeKind) (list numbers : List ℕ) (m : Lent) : Type 0 where
-  pub stack : 2 * levelsFor g kind list * perNode (shapeOf g kind) ≤ m .stack
+pub record LongEnough (list numbers : List ℕ) (m : Lent) : Type 0 where
+  pub stack : stackPlaces ≤ m .stack
   pub scratch : m .blocks ≤ m .scratch
   pub blocks : length numbers ≤ m .blocks
   pub bytes : length list ≤ m .bytes
@@ -53,4 +53,4 @@ EveryTree =
     (g : Geometry) (kind : TreeKind) (list numbers bytes : List ℕ) (room : ℕ) → Fits g → IsBytes list → AreNumbers numbers
     → buildOutcome g kind list numbers room ≡ done bytes
     → (image : List ℕ) (m : Lent) → Places (g .blocksize) (length image) numbers → length numbers ≤ max (g .agblocks) 64
-    → LongEnough g kind list numbers m → Returned g kind list numbers (stored (g .blocksize) image numbers bytes) m
+    → LongEnough list numbers m → Returned g kind list numbers (stored (g .blocksize) image numbers bytes) m

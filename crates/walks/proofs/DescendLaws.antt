@@ -1,7 +1,6 @@
 -- Laws of a walk's descent: the pairs of the blocks above the one that is due.
 -- Assumes nothing.
 use Prim.Native.Nat.{ℕ, zero, suc, _+_, _-_, _*_, _^_, _≤_, _<_}
-use native.Mathlib.Nat.{mul-le-mul, mul-comm, mul-assoc}
 use native.Mathlib.Numerals.{add-one}
 use native.Mathlib.Omega.{arith}
 use native.Mathlib.Decide.{decLt}
@@ -186,13 +185,6 @@ module _ (s : Shape) (image : List ℕ) where
       (moved-set p (getD p ((level + 1) * 2 + 1) 0 + 1) (level + 1) low levels (m .least) (m .inside) (omega (arith, m .one-left)) o)
 
 -- ---- the walk
-
--- the stack that document 01 asks for has nine pairs' places
-pub eighteen : (levels most len : ℕ) → 1 ≤ levels → 10 ≤ most → 2 * levels * most ≤ len → 18 ≤ len
-eighteen levels most len h k d =
-    let m : 1 * 10 ≤ levels * most = mul-le-mul h k in
-    let e : levels * most * 2 ≡ 2 * levels * most = mul-comm (levels * most) 2 ∙ sym (mul-assoc 2 levels most) in
-    omega arith
 
 -- before the first turn
 pub walking-begin : (s : Shape) (image : List ℕ) (root levels limit places w : ℕ) (stack scratch out : List ℕ) → 1 ≤ levels → levels ≤ 9 → 18 ≤ length stack → places ≤ length scratch

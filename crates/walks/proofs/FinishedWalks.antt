@@ -67,7 +67,7 @@ walk-reads : (g : Geometry) (kind : TreeKind) (image : List ℕ) (root levels : 
 unfolding walkIn
 walk-reads g kind image root levels m t e h =
     run-reads (lookIn (shapeOf g kind) image) (max (g .agblocks) 64) (m .blocks) (m .bytes) (visitOf root (levels - 1)) t
-    (done-means (walkQuestions g kind levels m) (walkIn (shapeOf g kind) image root levels (max (g .agblocks) 64) (m .blocks) (m .bytes)) t e .1) h
+    (done-means (walkQuestions g levels m) (walkIn (shapeOf g kind) image root levels (max (g .agblocks) 64) (m .blocks) (m .bytes)) t e .1) h
 
 pub every-walk : EveryWalk
 every-walk g kind image root levels m =

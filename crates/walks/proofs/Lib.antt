@@ -3,6 +3,7 @@ pub mod StackLaws
 pub mod WalkLaws
 pub mod RunLaws
 pub mod LookLaws
+pub mod StackSizes
 pub mod VisitLaws
 pub mod DescendLaws
 pub mod PathLaws

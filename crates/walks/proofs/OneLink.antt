@@ -270,7 +270,7 @@ module _ (g : Geometry) (kind : TreeKind) (image : List ℕ) (bytes : IsBytes im
       → left < 2 ^ 32 → right < 2 ^ 32 → (left ≡ leftsibOf size image b → right ≡ rightsibOf size image b → ⊥)
       → (walkOf g kind image′ root levels m ≡ done t) × (saysLinked size image′ levels (done t) ≡ false)
   told-apart root levels m t e says l lt a lf rf differs = (
-    ap (λ (x : Trace). answer (walkQuestions g kind levels m) (done x)) (walk-same root levels (max (g .agblocks) 64) (m .blocks) (m .bytes)) ∙ e,
+    ap (λ (x : Trace). answer (walkQuestions g levels m) (done x)) (walk-same root levels (max (g .agblocks) 64) (m .blocks) (m .bytes)) ∙ e,
     go (saysLinked size image′ levels (done t)) refl,
   )
     where
@@ -307,7 +307,7 @@ walk-goods g kind image root levels limit places room =
 pub one-link-wrong : OneLinkWrong
 one-link-wrong g kind image root levels m t b left right bytes e says a lf rf differs =
     let walked = walkIn (shapeOf g kind) image root levels (max (g .agblocks) 64) (m .blocks) (m .bytes) in
-    let is : walked ≡ t = done-means (walkQuestions g kind levels m) walked t e .1 in
+    let is : walked ≡ t = done-means (walkQuestions g levels m) walked t e .1 in
     let goods : Goods (lookIn (shapeOf g kind) image) (visits t) =
     subst (λ (x : Trace). Goods (lookIn (shapeOf g kind) image) (visits x)) is (walk-goods g kind image root levels (max (g .agblocks) 64) (m .blocks) (m .bytes)) in
     let l = level-of b levels (visits t) a in

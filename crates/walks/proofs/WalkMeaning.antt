@@ -168,14 +168,14 @@ module _ (g : Geometry) (kind : TreeKind) (image : List ℕ) (root levels : ℕ)
   -- the block list by level holds every visit
   pub blocks-listed : length (byLevel levels (visits t)) ≡ length (visits t)
   blocks-listed =
-      let k = done-means (walkQuestions g kind levels m) (walkIn (shapeOf g kind) image root levels (max (g .agblocks) 64) (m .blocks) (m .bytes)) t e in
+      let k = done-means (walkQuestions g levels m) (walkIn (shapeOf g kind) image root levels (max (g .agblocks) 64) (m .blocks) (m .bytes)) t e in
       let l : 1 ≤ levels = leb-true 1 levels (both-left (leb 1 levels) (leb levels 9) (k .0 .1 .0)) in
       subst (λ (u : Trace). length (byLevel levels (visits u)) ≡ length (visits u)) (k .1) (walk-listed g kind image root levels (max (g .agblocks) 64) (m .blocks) (m .bytes) (k .0 .0) l)
 
   -- as many records as are reported take all the bytes
   pub records-whole : length (records t) / recordLen kind * recordLen kind ≡ length (records t)
   records-whole =
-      let k = done-means (walkQuestions g kind levels m) (walkIn (shapeOf g kind) image root levels (max (g .agblocks) 64) (m .blocks) (m .bytes)) t e in
+      let k = done-means (walkQuestions g levels m) (walkIn (shapeOf g kind) image root levels (max (g .agblocks) 64) (m .blocks) (m .bytes)) t e in
       let w : Wholes (recordLen kind) t = subst (Wholes (recordLen kind)) (k .1) (walk-wholes g kind image root levels (max (g .agblocks) 64) (m .blocks) (m .bytes) (k .0 .0)) in
       let n = wholes-length (recordLen kind) t w in
       let p : 0 < recordLen kind = omega (arith, bounded kind .record-least) in

@@ -79,6 +79,6 @@ walk-in-because g kind image root levels limit places room =
 pub walk-because : (g : Geometry) (kind : TreeKind) (image : List ℕ) (root levels : ℕ) (m : Lent) (t : Trace) → walkOf g kind image root levels m ≡ done t
     → Because (lookIn (shapeOf g kind) image) (max (g .agblocks) 64) (m .blocks) (m .bytes) 0 0 t
 walk-because g kind image root levels m t e =
-    let k = done-means (walkQuestions g kind levels m) (walkIn (shapeOf g kind) image root levels (max (g .agblocks) 64) (m .blocks) (m .bytes)) t e in
+    let k = done-means (walkQuestions g levels m) (walkIn (shapeOf g kind) image root levels (max (g .agblocks) 64) (m .blocks) (m .bytes)) t e in
     subst (Because (lookIn (shapeOf g kind) image) (max (g .agblocks) 64) (m .blocks) (m .bytes) 0 0) (k .1)
     (walk-in-because g kind image root levels (max (g .agblocks) 64) (m .blocks) (m .bytes))

@@ -1,11 +1,12 @@
--- In reading order: a walk over any way to look at a block, the look at a block of a group, what a call comes to and leaves, whether every level is linked,
--- what a walk means, what is asked first, and the blocks that are due as nine pairs. `inner` is what the functions of this crate promise one another: no other
--- crate names it.
+-- In reading order: a walk over any way to look at a block, the look at a block of a group, what a call comes to and leaves, that it is the same on a larger
+-- stack, whether every level is linked, what a walk means, what is asked first, and the blocks that are due as nine pairs. `inner` is what the functions of this
+-- crate promise one another: no other crate names it.
 pub mod Memory
 pub mod Walk
 pub mod Shapes
 pub mod WalkCall
 pub mod WalkAnswer
+pub mod LargerStack
 pub mod Links
 pub mod Forest
 pub mod First

@@ -12,6 +12,7 @@ use Rattle.blocks.specs.Tree.{ptrLen}
 use Rattle.walks.specs.declared.path.Next.{Next}
 use Rattle.walks.specs.declared.path.Next.the-variants.{Block, Nothing}
 use Rattle.walks.specs.Walk.{Visit, visitOf, Shape, perNode, blockIn, firstPointer}
+use Rattle.walks.specs.WalkCall.{stackPlaces}
 
 -- ---- the children of a node
 
@@ -50,7 +51,7 @@ pathOf due p level (suc n) = due level (getD p (level * 2) 0) (getD p (level * 2
 
 -- the block of a pair lies in the image, has no more children than a node holds, and its next child is one of them or none
 pub record Opened (s : Shape) (image p : List ℕ) (low levels : ℕ) : Type 0 where
-  pub places : 18 ≤ length p
+  pub places : stackPlaces ≤ length p
   pub few : levels ≤ 9
   pub above : 1 ≤ low
   pub within : low ≤ levels

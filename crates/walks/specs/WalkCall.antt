@@ -1,6 +1,6 @@
 -- What a call of the walk comes to: its answer, and what each of the four lent slices holds afterwards.
 -- Assumes nothing.
-use Prim.Native.Nat.{ℕ, _+_, _-_, _*_, _/_, max}
+use Prim.Native.Nat.{ℕ, _+_, _-_, _/_, max}
 use mathlib.Core.List.{List, [], _∷_}
 use mathlib.Core.Bool.{_&&_}
 use lib.ListN.{length}
@@ -11,7 +11,7 @@ use Rattle.blocks.specs.declared.geometry.Geometry.{Geometry}
 use Rattle.blocks.specs.declared.kind.TreeKind.{TreeKind}
 use Rattle.blocks.specs.Geometry.{geometryOk}
 use Rattle.walks.specs.Shapes.{shapeOf}
-use Rattle.walks.specs.Walk.{visitOf, Trace, finished, spent, failed, met, run, fit, visits, records, byLevel, Shape, perNode, lookIn}
+use Rattle.walks.specs.Walk.{visitOf, Trace, finished, spent, failed, met, run, fit, visits, records, byLevel, Shape, lookIn}
 use Rattle.walks.specs.Memory.{zeros}
 
 -- the counts of a finished walk: its visits, which are the blocks of the block list, its records, and their bytes
@@ -54,19 +54,30 @@ lent stack scratch blocks out = record { stack = length stack; scratch = length 
 unfoldable pub walkIn : Shape → List ℕ → ℕ → ℕ → ℕ → ℕ → ℕ → Trace
 walkIn s image root levels limit places room = fit places room (run (lookIn s image) limit (visitOf root (levels - 1) ∷ []))
 
--- the questions before the first visit: 1, 11 and 12
-abbrev pub walkQuestions : Geometry → TreeKind → ℕ → Lent → List Question
-walkQuestions g kind levels m =
+-- the places that are needed of a stack: nine pairs, a block and its next child for each level, whatever the levels, the kind and the block size
+abbrev pub stackPlaces : ℕ
+stackPlaces = 18
+
+-- the questions before the first visit, where so many places of the stack are needed: 1, 11 and 12
+abbrev pub firstQuestions : (needed : ℕ) → Geometry → ℕ → Lent → List Question
+firstQuestions needed g levels m =
     ask 1 (geometryOk g)
     ∷ ask 11 (leb 1 levels && leb levels 9)
-    ∷ ask 12 (leb (2 * levels * perNode (shapeOf g kind)) (m .stack) && leb (m .blocks) (m .scratch))
+    ∷ ask 12 (leb needed (m .stack) && leb (m .blocks) (m .scratch))
     ∷ []
 
--- 1, 11 and 12, then the walk, of at most max(agblocks, 64) visits. It goes left to right, depth first: `EveryWalk` of specs/Forest.antt.
-abbrev pub walkOf : Geometry → TreeKind → List ℕ → ℕ → ℕ → Lent → Outcome Trace
-walkOf g kind image root levels m =
-    answer (walkQuestions g kind levels m)
+-- those questions, then the walk, of at most max(agblocks, 64) visits. It goes left to right, depth first: `EveryWalk` of specs/Forest.antt.
+abbrev pub walkWith : (needed : ℕ) → Geometry → TreeKind → List ℕ → ℕ → ℕ → Lent → Outcome Trace
+walkWith needed g kind image root levels m =
+    answer (firstQuestions needed g levels m)
     (done (walkIn (shapeOf g kind) image root levels (max (g .agblocks) 64) (m .blocks) (m .bytes)))
+
+-- 12 asks for nine pairs
+abbrev pub walkQuestions : Geometry → ℕ → Lent → List Question
+walkQuestions g levels m = firstQuestions stackPlaces g levels m
+
+abbrev pub walkOf : Geometry → TreeKind → List ℕ → ℕ → ℕ → Lent → Outcome Trace
+walkOf g kind image root levels m = walkWith stackPlaces g kind image root levels m
 
 -- the answer; before the first visit no block passed 13
 abbrev pub report : ℕ → Outcome Trace → Report

@@ -2,11 +2,10 @@
 ghost use mathlib.Core.Path.{_≡_};
 ghost use Prim.Native.Nat.{_<_, _^_, max};
 ghost use Rattle.walks.specs.First.{FirstIs};
+use crate::path::STACK_PLACES;
 use crate::refusal::WalkRefusal;
 use blocks::check::BlockRefusal;
 use blocks::geometry::Geometry;
-use blocks::kind::TreeKind;
-use blocks::kind::block_capacity;
 
 // What the questions before the first visit come to.
 pub enum First {
@@ -15,15 +14,8 @@ pub enum First {
 }
 
 // Questions 1, 11 and 12, of so many places lent.
-pub fn ask_first(
-    g: Geometry,
-    kind: TreeKind,
-    levels: u32,
-    stack: usize,
-    scratch: usize,
-    blocks: usize,
-) -> First
-    ensures { λ r. ⌜ FirstIs g kind levels stack scratch blocks r ⌝ }
+pub fn ask_first(g: Geometry, levels: u32, stack: usize, scratch: usize, blocks: usize) -> First
+    ensures { λ r. ⌜ FirstIs g levels stack scratch blocks r ⌝ }
 {
     if !g.is_ok() {
         return First::Refused(WalkRefusal::Block(BlockRefusal::BadGeometry));
@@ -34,8 +26,7 @@ pub fn ask_first(
     if 9 < levels {
         return First::Refused(WalkRefusal::Levels);
     }
-    let capacity = block_capacity(kind, g.version, 1, g.blocksize as usize);
-    if stack < 2 * (levels as usize) * capacity {
+    if stack < STACK_PLACES {
         return First::Refused(WalkRefusal::Scratch);
     }
     if scratch < blocks {

@@ -7,6 +7,7 @@ ghost use lib.ListN.{length};
 ghost use Rattle.blocks.specs.Geometry.{geometryOk};
 ghost use Rattle.walks.specs.Walk.{blockIn, perNode, firstPointer};
 ghost use Rattle.walks.specs.Shapes.{shapeOf};
+ghost use Rattle.walks.specs.WalkCall.{stackPlaces};
 ghost use Rattle.walks.specs.Path.{childAt, fanOf, Opened, withPair, lowOf, Advanced};
 use blocks::geometry::Geometry;
 use blocks::kind::PTR_LEN;
@@ -16,6 +17,9 @@ use blocks::kind::header_len;
 use blocks::offsets::NUMRECS;
 use codec::endian::be16;
 use codec::endian::be32;
+
+// The places of nine pairs, which the stack of a walk or of a lookup has to have.
+pub const STACK_PLACES: usize = 18;
 
 // The next block due, or none.
 pub enum Next {
@@ -54,7 +58,7 @@ fn child(g: Geometry, kind: TreeKind, image: &[u8], first: usize, block: u32, i:
 
 // A block's own pair, where it is a node; says the lowest level that has a pair.
 pub fn open(pairs: &mut [u32], block: u32, level: u32) -> u32
-    requires { ⌜ (18 ≤ length (now pairs)) × (level < 9) ⌝ }
+    requires { ⌜ (stackPlaces ≤ length (now pairs)) × (level < 9) ⌝ }
     ensures { λ r. ⌜ (r ≡ lowOf level) × (now (pairs .exit) ≡ withPair (now (pairs .entry)) block level) ⌝ }
 {
     if level == 0 {

@@ -225,7 +225,7 @@ pub fn walk_linked(
         (lent (now (stack .entry)) (now (scratch .entry)) (now (blocks .entry)) (now (records .entry)))) r (now (stack .entry)) (now (stack .exit))
         (now (scratch .entry)) (now (scratch .exit)) (now (blocks .entry)) (now (blocks .exit)) (now (records .entry)) (now (records .exit)) ⌝ }
 {
-    let first = ask_first(g, kind, levels, stack.len(), scratch.len(), blocks.len());
+    let first = ask_first(g, levels, stack.len(), scratch.len(), blocks.len());
     match first {
         First::Refused(refusal) => refused(refusal, 0),
         First::Ready => {

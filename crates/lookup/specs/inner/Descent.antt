@@ -9,6 +9,7 @@ use Rattle.codec.specs.declared.rmap.Rmap.{Rmap}
 use Rattle.walks.specs.declared.path.Next.{Next}
 use Rattle.walks.specs.declared.path.Next.the-variants.{Block, Nothing}
 use Rattle.walks.specs.Walk.{Visit, visitOf, good, Shape}
+use Rattle.walks.specs.WalkCall.{stackPlaces}
 use Rattle.walks.specs.Path.{pathOf, Opened}
 use Rattle.lookup.specs.declared.lookup.LookedUp.{LookedUp}
 use Rattle.lookup.specs.declared.lookup.LookedUp.the-variants.{Found, Refused}
@@ -35,7 +36,7 @@ pub record Ready (ok : Bool) (levels limit : ℕ) (asked stack answers : List �
   pub good : ok ≡ true
   pub least : 1 ≤ levels
   pub most : levels ≤ 9
-  pub deep : 18 ≤ length stack
+  pub deep : stackPlaces ≤ length stack
   pub few : limit < 2 ^ 32
   pub order : ascending asked ≡ true
   pub room : length asked ≤ length answers

@@ -28,7 +28,7 @@ asked-first : (m : tie.After-enum-told) → (let s = m .before .before .before .
 asked-first m =
     let k = m .before .before in
     let a = k .before .before .before .before .before .args in
-    subst (FirstIs (a .g) kind.Rmap (a .levels) (length (now (a .stack))) 0 0) (m .enum-told .given .1) (k .ask-first .ensures) .holds 0 _
+    subst (FirstIs (a .g) (a .levels) (length (now (a .stack))) 0 0) (m .enum-told .given .1) (k .ask-first .ensures) .holds 0 _
 
 ask-first-requires : tie.Need-ask-first-requires
 ask-first-requires c κs = search needs
@@ -41,7 +41,7 @@ returns c =
     let k = c .before .before .before in
     let a = k .before .before .before .before .before .args in
     untouched (now (a .asked)) _ (why.Walk (c .before .first .given .0 .0)) (now (a .stack)) (now (a .answers))
-    (subst (FirstIs (a .g) kind.Rmap (a .levels) (length (now (a .stack))) 0 0) (c .before .first .given .1) (k .ask-first .ensures) 0 _)
+    (subst (FirstIs (a .g) (a .levels) (length (now (a .stack))) 0 0) (c .before .first .given .1) (k .ask-first .ensures) 0 _)
 
 enum-told : tie.Need-enum-told
 enum-told c = search needs
@@ -72,7 +72,7 @@ lookup-tree-requires c κs =
     let k = m .before .before in
     let s = k .before .before .before .before .before in
     let a = s .args in
-    let b = subst (FirstIs (a .g) kind.Rmap (a .levels) (length (now (a .stack))) 0 0) (m .enum-told .given .1) (k .ask-first .ensures) .begun in
+    let b = subst (FirstIs (a .g) (a .levels) (length (now (a .stack))) 0 0) (m .enum-told .given .1) (k .ask-first .ensures) .begun in
     let w = may-means (now (a .asked)) (length (now (a .answers))) (may f) in
     record {
       good = b .good;

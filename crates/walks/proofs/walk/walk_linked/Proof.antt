@@ -30,7 +30,7 @@ limit-of-requires c κs = search needs
 abbrev asked : (q : tie.After-ask-first) → First → Type 0
 asked q x =
     let a = q .before .before .before .before .before .before .args in
-    FirstIs (a .g) (a .kind) (a .levels) (length (now (a .stack))) (length (now (a .scratch))) (length (now (a .blocks))) x
+    FirstIs (a .g) (a .levels) (length (now (a .stack))) (length (now (a .scratch))) (length (now (a .blocks))) x
 
 -- 1, 11 and 12 hold
 ready : (e : tie.After-enum-told) → asked (e .before .before) Ready
