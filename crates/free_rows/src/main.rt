@@ -383,7 +383,7 @@ fn walk_in(
     show(answer, kind, stack, scratch, blocks, records);
 }
 
-// A walk that is lent so many places of the stack, out of 180, and so many bytes for records, out of 1100.
+// A walk that is lent so many places of the stack, out of 20, and so many bytes for records, out of 1100.
 fn walk_row(
     name: &[u8],
     g: Geometry,
@@ -394,11 +394,11 @@ fn walk_row(
     places: usize,
     room: usize,
 ) {
-    let mut stack = [0xEEu32; 180];
+    let mut stack = [0xEEu32; 20];
     let mut scratch = [0xEEu64; 5];
     let mut blocks = [0xEEu32; 5];
     let mut records = [0xEEu8; 1100];
-    if 180 < places {
+    if 20 < places {
         return;
     }
     if 1100 < room {
@@ -429,33 +429,27 @@ fn read_row(name: &[u8], version: u16, kind: TreeKind, places: usize, room: usiz
 fn from_row(name: &[u8], version: u16, kind: TreeKind, root: u32, levels: u32) {
     let mut image = [0xEEu8; 2560];
     plant(version, kind, &mut image);
-    walk_row(name, usual(version), kind, &image, root, levels, 180, 1100);
+    walk_row(name, usual(version), kind, &image, root, levels, 20, 1100);
 }
 
 // A tree of a version and a kind, walked as of another.
 fn taken_row(name: &[u8], planted: u16, kind: TreeKind, version: u16, other: TreeKind) {
     let mut image = [0xEEu8; 2560];
     plant(planted, kind, &mut image);
-    walk_row(name, usual(version), other, &image, 2, 2, 180, 1100);
+    walk_row(name, usual(version), other, &image, 2, 2, 20, 1100);
 }
 
-// 12 asks for a stack of 2 x 2 x 41 places on version 4 and of 2 x 2 x 38 on version 5.
+// 12 asks for a stack of 18 places on either version.
 fn walks() {
-    read_row(b"by block, 4", 4, TreeKind::ByBlock, 180, 1100);
-    read_row(b"by block, 4, just enough", 4, TreeKind::ByBlock, 164, 1040);
-    read_row(
-        b"by block, 4, stack of 163",
-        4,
-        TreeKind::ByBlock,
-        163,
-        1040,
-    );
-    read_row(b"by block, 4, 1039 bytes", 4, TreeKind::ByBlock, 164, 1039);
-    read_row(b"by size, 4", 4, TreeKind::BySize, 180, 1100);
-    read_row(b"by block, 5", 5, TreeKind::ByBlock, 180, 1100);
-    read_row(b"by size, 5", 5, TreeKind::BySize, 180, 1100);
-    read_row(b"by size, 5, just enough", 5, TreeKind::BySize, 152, 1040);
-    read_row(b"by size, 5, stack of 151", 5, TreeKind::BySize, 151, 1040);
+    read_row(b"by block, 4", 4, TreeKind::ByBlock, 20, 1100);
+    read_row(b"by block, 4, just enough", 4, TreeKind::ByBlock, 18, 1040);
+    read_row(b"by block, 4, stack of 17", 4, TreeKind::ByBlock, 17, 1040);
+    read_row(b"by block, 4, 1039 bytes", 4, TreeKind::ByBlock, 18, 1039);
+    read_row(b"by size, 4", 4, TreeKind::BySize, 20, 1100);
+    read_row(b"by block, 5", 5, TreeKind::ByBlock, 20, 1100);
+    read_row(b"by size, 5", 5, TreeKind::BySize, 20, 1100);
+    read_row(b"by size, 5, just enough", 5, TreeKind::BySize, 18, 1040);
+    read_row(b"by size, 5, stack of 17", 5, TreeKind::BySize, 17, 1040);
     from_row(b"by size, 5, one leaf", 5, TreeKind::BySize, 3, 1);
     from_row(b"by block, 4, root outside", 4, TreeKind::ByBlock, 5, 2);
     from_row(b"by block, 4, 1 level", 4, TreeKind::ByBlock, 2, 1);
@@ -494,7 +488,7 @@ fn damaged_row(
     let mut image = [0xEEu8; 2560];
     plant(version, kind, &mut image);
     damage_in(&mut image, block, at, value, again);
-    walk_row(name, usual(version), kind, &image, 2, 2, 180, 1100);
+    walk_row(name, usual(version), kind, &image, 2, 2, 20, 1100);
 }
 
 // On version 4 nothing but the magic, the level and the number of records is asked of a block.

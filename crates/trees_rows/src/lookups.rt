@@ -7,6 +7,7 @@ use crate::newline;
 use crate::number;
 use crate::plant;
 use crate::usual;
+use crate::wide_in;
 use blocks::geometry::AgBlock;
 use blocks::geometry::Geometry;
 use lookup::lookup::LookedUp;
@@ -81,7 +82,7 @@ fn lookup_in(
     newline();
 }
 
-// A lookup with so many places of the stack, out of 66, and for answers, out of 16.
+// A lookup with so many places of the stack, out of 20, and for answers, out of 16.
 fn lent_row(
     name: &[u8],
     g: Geometry,
@@ -92,9 +93,9 @@ fn lent_row(
     places: usize,
     room: usize,
 ) {
-    let mut stack = [0xEEu32; 66];
+    let mut stack = [0xEEu32; 20];
     let mut answers = [0xEEu64; 16];
-    if 66 < places {
+    if 20 < places {
         return;
     }
     if 16 < room {
@@ -129,7 +130,7 @@ fn tree_row(
 }
 
 fn row(name: &[u8], asked: &[u32]) {
-    tree_row(name, usual(), 14, 3, asked, 60, 16);
+    tree_row(name, usual(), 14, 3, asked, 20, 16);
 }
 
 fn from_the_root() {
@@ -157,7 +158,7 @@ fn from_the_root() {
 // Two numbers looked up in the right half alone, where the record that reaches past them all is not.
 fn half_row(name: &[u8], a: u32, b: u32) {
     let asked = [a, b];
-    tree_row(name, usual(), 7, 2, &asked, 40, 16);
+    tree_row(name, usual(), 7, 2, &asked, 18, 16);
 }
 
 // The second leaf of the half is that of 394 to 446.
@@ -170,8 +171,8 @@ fn at_a_leaf() {
 
 fn in_and_between() {
     let all = [339u32, 340, 342, 393, 394, 446, 447, 556, 608, 609];
-    tree_row(b"before, in, between, after", usual(), 7, 2, &all, 40, 16);
-    tree_row(b"one leaf", usual(), 13, 1, &all, 20, 10);
+    tree_row(b"before, in, between, after", usual(), 7, 2, &all, 18, 16);
+    tree_row(b"one leaf", usual(), 13, 1, &all, 18, 10);
 }
 
 // The last record of a leaf, its start and its length made so large that it ends past every number.
@@ -188,7 +189,7 @@ fn past_every_number() {
         13,
         1,
         &asked,
-        20,
+        18,
         4,
     );
 }
@@ -205,7 +206,7 @@ fn damaged_row(name: &[u8], block: u32, at: usize, value: u8, again: bool, a: u3
     let asked = [a, b];
     plant(&mut image);
     damage_in(&mut image, block, at, value, again);
-    lent_row(name, usual(), &image, 14, 3, &asked, 60, 16);
+    lent_row(name, usual(), &image, 14, 3, &asked, 18, 16);
 }
 
 // The second leaf's pointer is made the first leaf's: its keys stay.
@@ -234,22 +235,22 @@ fn at_once_row(name: &[u8], g: Geometry, levels: u32, a: u32, b: u32, places: us
 }
 
 fn refused_at_once() {
-    at_once_row(b"block size 256", geometry(5, 256, 1000), 0, 6, 5, 59, 1);
-    at_once_row(b"0 levels", usual(), 0, 6, 5, 59, 1);
-    at_once_row(b"10 levels", usual(), 10, 6, 5, 59, 1);
-    at_once_row(b"stack of 59", usual(), 3, 6, 5, 59, 1);
-    at_once_row(b"descending numbers", usual(), 3, 6, 5, 60, 2);
-    at_once_row(b"equal numbers", usual(), 3, 5, 5, 60, 2);
-    at_once_row(b"one place", usual(), 3, 5, 6, 60, 1);
+    at_once_row(b"block size 256", geometry(5, 256, 1000), 0, 6, 5, 17, 1);
+    at_once_row(b"0 levels", usual(), 0, 6, 5, 17, 1);
+    at_once_row(b"10 levels", usual(), 10, 6, 5, 17, 1);
+    at_once_row(b"stack of 17", usual(), 3, 6, 5, 17, 1);
+    at_once_row(b"descending numbers", usual(), 3, 6, 5, 18, 2);
+    at_once_row(b"equal numbers", usual(), 3, 5, 5, 18, 2);
+    at_once_row(b"one place", usual(), 3, 5, 6, 18, 1);
 }
 
 fn refused_at_the_root() {
     let four = geometry(4, 512, 1000);
     let two = [10u32, 607];
-    tree_row(b"root outside", usual(), 20, 3, &two, 60, 2);
-    tree_row(b"version 4", four, 14, 3, &two, 66, 2);
-    tree_row(b"version 4, stack of 65", four, 14, 3, &two, 65, 2);
-    tree_row(b"2 levels", usual(), 14, 2, &two, 60, 2);
+    tree_row(b"root outside", usual(), 20, 3, &two, 18, 2);
+    tree_row(b"version 4", four, 14, 3, &two, 18, 2);
+    tree_row(b"version 4, stack of 17", four, 14, 3, &two, 17, 2);
+    tree_row(b"2 levels", usual(), 14, 2, &two, 18, 2);
 }
 
 // Two numbers looked up in an image cut a byte short: its last block is the leaf of 448 to 500.
@@ -257,7 +258,7 @@ fn short_row(name: &[u8], a: u32, b: u32) {
     let mut image = [0xEEu8; 10240];
     let asked = [a, b];
     plant(&mut image);
-    lent_row(name, usual(), &image[0..10239], 14, 3, &asked, 60, 16);
+    lent_row(name, usual(), &image[0..10239], 14, 3, &asked, 18, 16);
 }
 
 // The last leaf is that of 556 to 608.
@@ -283,7 +284,7 @@ fn folded_row(name: &[u8], agblocks: u32, a: u32, b: u32) {
     fresh_in(g, &mut image, 1, 1, 10, 0);
     fresh_in(g, &mut image, 2, 2, 10, 1);
     damage_in(&mut image, 0, 63, 1, true);
-    lent_row(name, g, &image, 2, 3, &asked, 60, 3);
+    lent_row(name, g, &image, 2, 3, &asked, 18, 3);
 }
 
 fn refused_by_visits() {
@@ -291,6 +292,24 @@ fn refused_by_visits() {
     folded_row(b"folded, agblocks 110", 110, 0, 1);
     folded_row(b"folded, agblocks 111", 111, 0, 1);
     folded_row(b"folded, all skipped", 0, 1, 2);
+}
+
+// Blocks of 65,536 bytes: a root that points twice to a leaf, whose record lies over no block, all keys 0.
+fn wide_row(name: &[u8], places: usize) {
+    let g = geometry(5, 65536, 1000);
+    let mut image = [0u8; 131072];
+    let asked = [0u32, 1];
+    wide_in(g, &mut image, 0, 0, 1);
+    wide_in(g, &mut image, 1, 1, 2);
+    lent_row(name, g, &image, 1, 2, &asked, places, 2);
+}
+
+fn stacks() {
+    let two = [10u32, 607];
+    tree_row(b"9 levels, stack of 18", usual(), 14, 9, &two, 18, 2);
+    tree_row(b"9 levels, stack of 17", usual(), 14, 9, &two, 17, 2);
+    wide_row(b"65,536 bytes, stack of 18", 18);
+    wide_row(b"65,536 bytes, stack of 17", 17);
 }
 
 pub(crate) fn lookups() {
@@ -304,4 +323,5 @@ pub(crate) fn lookups() {
     refused_at_the_root();
     refused_by_blocks();
     refused_by_visits();
+    stacks();
 }

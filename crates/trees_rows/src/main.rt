@@ -435,6 +435,44 @@ fn folded_row(name: &[u8], agblocks: u32) {
     walk_row(name, g, &image, 2, 3, plenty());
 }
 
+fn wide_in(g: Geometry, image: &mut [u8], block: u32, level: u16, numrecs: u16) {
+    let a = (block as usize) * 65536;
+    let e = a + 65536;
+    if image.len() < e {
+        return;
+    }
+    fresh(g, TreeKind::Rmap, block, level, numrecs, &mut image[a..e]);
+}
+
+// Blocks of 65,536 bytes, a node of which has room for 1,488 children: a root that points twice to a leaf of one record, with so many places of the stack.
+fn wide_row(name: &[u8], places: usize) {
+    let g = geometry(5, 65536, 1000);
+    let mut image = [0u8; 131072];
+    wide_in(g, &mut image, 0, 0, 1);
+    wide_in(g, &mut image, 1, 1, 2);
+    walk_row(name, g, &image, 1, 2, lent(places, 3, 3, 48));
+}
+
+// Over any number of levels 12 takes 18 places of the stack, and all that are lent are zero afterwards.
+fn stacks() {
+    let few = lent(17, 14, 14, 4800);
+    let enough = lent(18, 14, 14, 4800);
+    tree_row(
+        b"stack of 19",
+        usual(),
+        10240,
+        14,
+        3,
+        lent(19, 14, 14, 4800),
+    );
+    tree_row(b"1 level, stack of 18", usual(), 10240, 13, 1, enough);
+    tree_row(b"1 level, stack of 17", usual(), 10240, 13, 1, few);
+    tree_row(b"9 levels, stack of 18", usual(), 10240, 14, 9, enough);
+    tree_row(b"9 levels, stack of 17", usual(), 10240, 14, 9, few);
+    wide_row(b"65,536 bytes, stack of 18", 18);
+    wide_row(b"65,536 bytes, stack of 17", 17);
+}
+
 fn read() {
     tree_row(b"tree", usual(), 10240, 14, 3, plenty());
     tree_row(
@@ -443,7 +481,7 @@ fn read() {
         10240,
         14,
         3,
-        lent(60, 14, 14, 4800),
+        lent(18, 14, 14, 4800),
     );
     tree_row(b"left half", usual(), 10240, 0, 2, plenty());
     tree_row(b"one leaf", usual(), 10240, 13, 1, plenty());
@@ -467,12 +505,12 @@ fn refused_at_once() {
     tree_row(b"0 levels", usual(), 10240, 14, 0, lent(0, 0, 14, 0));
     tree_row(b"10 levels", usual(), 10240, 14, 10, plenty());
     tree_row(
-        b"stack of 59",
+        b"stack of 17",
         usual(),
         10240,
         20,
         3,
-        lent(59, 14, 14, 4800),
+        lent(17, 14, 14, 4800),
     );
     tree_row(
         b"level scratch of 13",
@@ -480,7 +518,7 @@ fn refused_at_once() {
         10240,
         20,
         3,
-        lent(60, 13, 14, 4800),
+        lent(18, 13, 14, 4800),
     );
 }
 
@@ -494,7 +532,7 @@ fn refused_by_lengths() {
         10240,
         20,
         3,
-        lent(66, 14, 14, 4800),
+        lent(18, 14, 14, 4800),
     );
     tree_row(
         b"version 4, root inside",
@@ -502,15 +540,15 @@ fn refused_by_lengths() {
         10240,
         14,
         3,
-        lent(66, 14, 14, 4800),
+        lent(18, 14, 14, 4800),
     );
     tree_row(
-        b"version 4, stack of 65",
+        b"version 4, stack of 17",
         four,
         10240,
         14,
         3,
-        lent(65, 14, 14, 4800),
+        lent(17, 14, 14, 4800),
     );
     tree_row(
         b"block list of 13",
@@ -518,7 +556,7 @@ fn refused_by_lengths() {
         10240,
         14,
         3,
-        lent(60, 14, 13, 4800),
+        lent(18, 14, 13, 4800),
     );
     tree_row(
         b"record list of 4799",
@@ -526,7 +564,7 @@ fn refused_by_lengths() {
         10240,
         14,
         3,
-        lent(60, 14, 14, 4799),
+        lent(18, 14, 14, 4799),
     );
     tree_row(
         b"no block list",
@@ -534,7 +572,7 @@ fn refused_by_lengths() {
         10240,
         14,
         3,
-        lent(60, 14, 0, 4800),
+        lent(18, 14, 0, 4800),
     );
 }
 
@@ -551,7 +589,7 @@ fn refused_by_blocks() {
     damaged_row(b"node's pointer to no block", 7, 459, 1, true);
     copied_row(b"root's copy", 15);
     tree_row(b"2 levels", usual(), 10240, 14, 2, plenty());
-    tree_row(b"4 levels", usual(), 10240, 14, 4, lent(80, 14, 14, 4800));
+    tree_row(b"4 levels", usual(), 10240, 14, 4, lent(18, 14, 14, 4800));
 }
 
 fn refused_by_visits() {
@@ -573,5 +611,6 @@ fn main() {
     refused_by_lengths();
     refused_by_blocks();
     refused_by_visits();
+    stacks();
     lookups::lookups();
 }
