@@ -63,6 +63,9 @@ extern "C" {
 #define KF_LEVELS 9u
 #define KF_FIGURES 4u
 
+/* The places of the stack that a walk or a lookup is lent, whatever the levels, the kind and the block size. */
+#define KF_STACK_PLACES 18u
+
 /* What a block names as its sibling where there is none: at both ends of a level. */
 #define KF_NO_SIBLING 0xFFFFFFFFu
 
@@ -92,8 +95,7 @@ enum kf_answer {
     KF_Q_RECORDS = 10,
     /* Are the levels of the tree 1 to 9? */
     KF_Q_LEVELS = 11,
-    /* Has the stack at least 2 x levels x (entries that a node has room for) places, and the scratch at least as many places as the block
-     * list? */
+    /* Has the stack at least 18 places, and the scratch at least as many places as the block list? */
     KF_Q_SCRATCH = 12,
     /* Were fewer than max(agblocks, 64) blocks visited before this one? */
     KF_Q_VISITS = 13,
@@ -168,10 +170,9 @@ uint32_t kf_build(KF_GEOMETRY, uint32_t kind, const uint8_t *list, size_t list_l
                   uint8_t *out, size_t out_len, uint64_t said[KF_FIGURES]);
 
 /* The records of a tree of so many levels, from its root, and its blocks by level, leaves first. The image is the group, block n at n times
- * the block size. The stack takes 2 x levels x node capacity places, the scratch as many as `blocks` (1, 11, 12; then at each block 13, 14,
- * 3 to 10, 15). The node capacity is (block size - header) / entry, rounded down: a header of 56 bytes (16 on version 4), entries of 44 bytes in
- * the reverse map, of 8 in the shared counts and of 12 in the free-space trees. A refusal by 1, 11 or 12 touches none of the four; any other
- * leaves all four zero. A finished walk leaves the stack and the scratch zero, and the lists past the result as they were.
+ * the block size. The stack takes KF_STACK_PLACES places, the scratch as many as `blocks` (1, 11, 12; then at each block 13, 14, 3 to 10, 15). A
+ * refusal by 1, 11 or 12 touches none of the four; any other leaves all four zero. A finished walk leaves the stack and the scratch zero, all that
+ * was lent of them, and the lists past the result as they were.
  * said: visits, records, bytes of records, 0; refused: expected, found, visits, 0. */
 uint32_t kf_walk(KF_GEOMETRY, uint32_t kind, const uint8_t *image, size_t image_len, uint32_t root, uint32_t levels,
                  uint32_t *stack, size_t stack_len, uint64_t *scratch, size_t scratch_len,
@@ -185,7 +186,7 @@ uint32_t kf_walk_linked(KF_GEOMETRY, uint32_t kind, const uint8_t *image, size_t
                         uint32_t *blocks, size_t blocks_len, uint8_t *records, size_t records_len, uint64_t said[KF_FIGURES]);
 
 /* How many records of the reverse map lie over each of the block numbers `asked`, in one descent from the root: `answers[i]` is that of
- * `asked[i]`. The image and the stack are as for a walk of the reverse map; there is no scratch (1, 11, 12, 29; then at each block 13, 14, 3 to
+ * `asked[i]`. The image and the stack are as for a walk; there is no scratch (1, 11, 12, 29; then at each block 13, 14, 3 to
  * 10). In a node a child is skipped where none of all the numbers lies from its low key's start to its high key's start, both included;
  * the root is visited always, also with no number asked. An answer counts the records of the leaves visited by their bytes as they are: start
  * <= number < start + count. Where kf_walk reads the tree, its records are accepted (19, 20) and its keys are those of the records under them,

@@ -162,11 +162,10 @@ static void store_and_read(const struct list *map)
 {
     uint64_t said[KF_FIGURES], levels[KF_LEVELS], answers[3];
     const uint32_t numbers[1] = {5}, asked[3] = {3, 4, 40};
-    const size_t capacity = (BLOCKSIZE - 56) / 44;
     struct list built, image, records;
-    uint32_t *stack, *blocks;
+    uint32_t stack[KF_STACK_PLACES], *blocks;
     uint64_t *scratch;
-    size_t i, stack_len;
+    size_t i;
 
     expect("plan", kf_plan(GEOMETRY, KF_KIND_RMAP, map->len / KF_RMAP_BYTES, levels, said), KF_DONE);
     must(said[0] == 1 && said[1] == 1 && levels[0] == 1, "the tree is one block");
@@ -186,13 +185,11 @@ static void store_and_read(const struct list *map)
     memset(image.bytes, 0, image.len);
     memcpy(image.bytes + numbers[0] * BLOCKSIZE, built.bytes, BLOCKSIZE);
 
-    stack_len = 2 * 1 * capacity;
-    stack = (uint32_t *)room(stack_len * sizeof *stack);
     scratch = (uint64_t *)room(1 * sizeof *scratch);
     blocks = (uint32_t *)room(1 * sizeof *blocks);
     records = lend(BLOCKSIZE);
     expect("walk_linked",
-           kf_walk_linked(GEOMETRY, KF_KIND_RMAP, image.bytes, image.len, numbers[0], 1, stack, stack_len, scratch, 1, blocks, 1,
+           kf_walk_linked(GEOMETRY, KF_KIND_RMAP, image.bytes, image.len, numbers[0], 1, stack, KF_STACK_PLACES, scratch, 1, blocks, 1,
                           records.bytes, records.len, said),
            KF_DONE);
     must(said[0] == 1 && blocks[0] == numbers[0], "it met the one block");
@@ -203,9 +200,9 @@ static void store_and_read(const struct list *map)
         printf("  record: %lu blocks from %lu\n", (unsigned long)be32(record + 4), (unsigned long)be32(record));
     }
 
-    /* How many records lie over each of some blocks, which have to ascend. The stack is as long as the walk's. */
+    /* How many records lie over each of some blocks, which have to ascend. */
     expect("lookup",
-           kf_lookup(GEOMETRY, image.bytes, image.len, numbers[0], 1, asked, 3, stack, stack_len, answers, 3, said),
+           kf_lookup(GEOMETRY, image.bytes, image.len, numbers[0], 1, asked, 3, stack, KF_STACK_PLACES, answers, 3, said),
            KF_DONE);
     must(said[0] == 1, "it read the one block");
     for (i = 0; i < 3; i++)
@@ -214,7 +211,6 @@ static void store_and_read(const struct list *map)
     free(built.bytes);
     free(image.bytes);
     free(records.bytes);
-    free(stack);
     free(scratch);
     free(blocks);
 }

@@ -100,15 +100,6 @@ impl Kind {
         }
     }
 
-    /// The bytes of an entry of its nodes: the keys of a child, and a pointer of 4.
-    pub(crate) const fn entry_len(self) -> usize {
-        match self {
-            Kind::Rmap => 44,
-            Kind::Refcount => 8,
-            Kind::ByBlock | Kind::BySize => 12,
-        }
-    }
-
     /// As the interface takes it.
     pub(crate) const fn number(self) -> u32 {
         match self {

@@ -7,7 +7,7 @@
 //! checked by tests.
 
 use crate::geometry::{Geometry, Kind};
-use crate::lent::{self, Lent, NewLists, Plan};
+use crate::lent::{self, Lent, NewLists, Plan, STACK_PLACES};
 use crate::question::{Question, Refusal, WalkRefusal};
 use crate::records::{
     free_extents, refcounts, rmaps, FreeExtent, Records, Refcount, Rmap, FREE_EXTENT, REFCOUNT,
@@ -165,7 +165,7 @@ impl Tree {
         root: Root,
         asked: &[u32],
     ) -> Result<LookedUp, WalkRefusal> {
-        let mut stack = vec![0; Lent::stack_places(g, Kind::Rmap, root.levels)];
+        let mut stack = [0; STACK_PLACES];
         let mut holders = vec![0; asked.len()];
         let visits = lent::lookup(
             g,
@@ -239,7 +239,7 @@ impl Tree {
         image: &[u8],
         root: Root,
     ) -> Result<Tree, WalkRefusal> {
-        let mut stack = vec![0; Lent::stack_places(g, kind, root.levels)];
+        let mut stack = [0; STACK_PLACES];
         let (mut scratch, mut blocks) = (vec![0; room], vec![0; room]);
         // No longer than the image, so the product does not overflow.
         let mut records = vec![0; room * g.blocksize as usize];

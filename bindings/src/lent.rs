@@ -10,5 +10,5 @@ pub use lists::{
 };
 pub use trees::{
     build, check_block, crc32c, crc32c_singly, lookup, plan, walk, walk_linked, Built, Header,
-    Lent, Plan, Walked, NO_SIBLING,
+    Lent, Plan, Walked, NO_SIBLING, STACK_PLACES,
 };

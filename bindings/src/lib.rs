@@ -172,7 +172,7 @@ pub use lent::{
     build, check_block, check_by_block, check_by_size, check_refcounts, check_rmaps, crc32c,
     crc32c_singly, insert, insert_shared, let_go, lookup, plan, release, remove, same_extents,
     take_held, walk, walk_linked, Built, Header, Lent, LetGone, NewLists, Plan, Released,
-    TakenHeld, Walked, NO_SIBLING,
+    TakenHeld, Walked, NO_SIBLING, STACK_PLACES,
 };
 pub use question::{Question, Refusal, Values, WalkRefusal};
 pub use records::{

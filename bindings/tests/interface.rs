@@ -703,10 +703,14 @@ fn the_constants_are_the_crates() {
         ("KF_FREE_EXTENT_BYTES", kf::FREE_EXTENT as u64),
         ("KF_LEVELS", 9),
         ("KF_FIGURES", 4),
+        ("KF_STACK_PLACES", kf::STACK_PLACES as u64),
         ("KF_NO_SIBLING", kf::NO_SIBLING as u64),
     ];
     let expected = expected.map(|(name, n)| (name.to_string(), n));
     assert_eq!(constants, BTreeMap::from(expected));
+    // 12 asks for the same places in the Rattle source.
+    let asked = format!("pub const STACK_PLACES: usize = {};", kf::STACK_PLACES);
+    assert!(read("crates/walks/src/path.rt").contains(&asked));
 }
 
 #[test]

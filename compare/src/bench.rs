@@ -310,9 +310,13 @@ struct Lent {
 
 impl Lent {
     fn of(s: &Sample) -> Lent {
-        let cap = kinds::node_capacity(&s.g, s.kind);
+        Lent::on(s, kinds::STACK_PLACES)
+    }
+
+    /// The same with so many places of the stack.
+    fn on(s: &Sample, places: usize) -> Lent {
         Lent {
-            stack: vec![0; 2 * s.image.levels as usize * cap],
+            stack: vec![0; places],
             scratch: vec![0; s.image.blocks.len()],
             blocks: vec![0; s.image.blocks.len()],
             records: vec![0; s.list.len()],
@@ -442,6 +446,44 @@ fn linked() {
             "| {n} records at {} | {plain:.3} | {with:.3} | {:.2} |",
             apart(size),
             with / plain
+        );
+    }
+}
+
+/// The library's walk on 18 places of the stack and on as many as document 01 asks
+/// for, by turns.
+fn stacks() {
+    println!("| tree | places of document 01 | walk on 18, ms | walk on those, ms | ratio |");
+    println!("|---|---:|---:|---:|---:|");
+    let counts = |n: usize| {
+        let list = bare::refcount_bytes(&sample::counts(n));
+        tree_of(Kind::REFCOUNT, 5, list, 65_536)
+    };
+    let made = [
+        ("reverse map", tree_image(1_000_000, 4096)),
+        ("reverse map", tree_image(1_000_000, 512)),
+        ("shared counts", counts(1_000_000)),
+        ("shared counts", counts(10_000)),
+    ];
+    for (what, s) in &made {
+        let larger = kinds::larger_stack(&s.g, s.kind, s.image.levels);
+        let mut lent = [kinds::STACK_PLACES, larger].map(|places| Lent::on(s, places));
+        let mut least = [Duration::MAX; 2];
+        for _ in 0..TIMES {
+            for (lent, least) in lent.iter_mut().zip(&mut least) {
+                let (d, ()) = best(1, || s.walk_library(lent));
+                *least = d.min(*least);
+            }
+        }
+        let [a, b] = &lent;
+        assert!(a.records == s.list && b.records == s.list && a.blocks == b.blocks);
+        let [few, many] = least.map(ms);
+        println!(
+            "| {what}, {} records at {} | {} | {few:.3} | {many:.3} | {:.2} |",
+            apart(s.list.len() / s.kind.record_len()),
+            apart(s.size),
+            apart(larger),
+            few / many
         );
     }
 }
@@ -790,9 +832,10 @@ fn edit_vectors(n: usize) {
 type Part = fn(&mut Vec<Row>);
 
 /// The tables beside it.
-const OTHER_PARTS: [&str; 6] = [
+const OTHER_PARTS: [&str; 7] = [
     "forms",
     "linked",
+    "stacks",
     "lookups",
     "vectors",
     "free_trees",
@@ -834,6 +877,9 @@ pub fn bench(words: &[String]) {
     }
     if wanted("linked") {
         linked();
+    }
+    if wanted("stacks") {
+        stacks();
     }
     if wanted("lookups") {
         lookups();

@@ -320,6 +320,7 @@ pub fn trees(r: &mut Random, scale: u64, tally: &mut Tally) {
     trees::builds_of(r, of, 8_000 * scale, tally);
     trees::walks_of(r, of, 5_000 * scale, tally);
     trees::shared_children(r, of, 300 * scale, tally);
+    trees::stacks(r, of, tally);
     links::links_of(r, of, 500 * scale, tally);
     for version in [4, 5] {
         links::tall_links(r, of, version, tally);

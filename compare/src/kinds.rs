@@ -2,7 +2,8 @@
 //!
 //! `oracle::paper` has the two older ones. The free-space trees go through the
 //! original's own functions over their shapes, with the questions around them
-//! that it does not ask (1, 12, 15, 18, 19 and 21), in the same order as there.
+//! that it does not ask (1, 15, 18, 19 and 21), in the same order as there. 12 is
+//! asked here of all four kinds: `oracle::paper` has it as document 01 does.
 
 use crate::free;
 use oracle::ag_btree::{self, Shape};
@@ -12,6 +13,32 @@ use oracle::error::{Error, Result};
 use oracle::refusal::Outcome;
 use oracle::sample::Random;
 use oracle::{paper, Geometry, Tree};
+
+/// The places of a stack that 12 asks for.
+pub const STACK_PLACES: usize = 18;
+
+/// Those that it asked for in document 01.
+pub fn larger_stack(g: &Geometry, kind: Kind, levels: u32) -> usize {
+    2 * levels as usize * node_capacity(g, kind)
+}
+
+/// Every block size with every number of levels.
+pub fn sizes_and_levels() -> impl Iterator<Item = (u64, u32)> {
+    (9..=16).flat_map(|bits| (1..=9).map(move |levels| (1 << bits, levels)))
+}
+
+/// No places, and those around 18 and around document 01's.
+pub fn stacks_around(larger: usize) -> [usize; 6] {
+    let least = STACK_PLACES;
+    [0, least - 1, least, least + 1, larger - 1, larger]
+}
+
+/// Places that 12 takes: just enough, some more, or document 01's.
+pub fn enough(r: &mut Random, g: &Geometry, kind: Kind, levels: u32) -> usize {
+    let larger = larger_stack(g, kind, levels);
+    let more = STACK_PLACES + r.below(60) as usize;
+    r.pick(&[STACK_PLACES, STACK_PLACES, STACK_PLACES + 1, more, larger])
+}
 
 #[derive(Debug, Clone, Copy, PartialEq, Eq)]
 pub enum Kind {
@@ -205,10 +232,6 @@ pub fn walk_blocks(
     levels: u32,
     lent: &paper::Lent,
 ) -> WalkAnswer {
-    let order = match kind {
-        Kind::Older(tree) => return paper::walk_blocks(g, tree, image, root, levels, lent),
-        Kind::Free(order) => order,
-    };
     let refused = |number: u8, visits: u64| WalkAnswer {
         visits,
         outcome: Outcome::paper(number),
@@ -216,12 +239,21 @@ pub fn walk_blocks(
     if !paper::geometry_holds(g) {
         return refused(1, 0);
     }
-    if (1..=9).contains(&levels) {
-        let stack = 2 * levels as usize * node_capacity(g, kind);
-        if lent.stack_places < stack || lent.scratch_places < lent.block_places {
-            return refused(12, 0);
-        }
+    let short = lent.stack_places < STACK_PLACES || lent.scratch_places < lent.block_places;
+    if (1..=9).contains(&levels) && short {
+        return refused(12, 0);
     }
+    let order = match kind {
+        Kind::Older(tree) => {
+            let stack_places = usize::MAX;
+            let lent = &paper::Lent {
+                stack_places,
+                ..*lent
+            };
+            return paper::walk_blocks(g, tree, image, root, levels, lent);
+        }
+        Kind::Free(order) => order,
+    };
     // 15 comes after a block passed 4 to 10. The original has no such question,
     // so the walk goes on and is stopped at the next block; what it says of that
     // next block is put aside.

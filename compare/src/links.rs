@@ -146,7 +146,7 @@ fn stored(r: &mut Random, g: Geometry, kind: Kind, n: usize, tally: &mut Tally) 
     }
     let levels = plan.len() as u32;
     let room = Room {
-        stack: 2 * plan.len() * kinds::node_capacity(&g, kind),
+        stack: kinds::enough(r, &g, kind, levels),
         scratch: total,
         blocks: total,
         bytes: list.len(),
@@ -249,7 +249,7 @@ fn tall(kind: Kind, version: u64) -> Stored {
     }
     relink(&g, &mut image, &at);
     let room = Room {
-        stack: 2 * 9 * kinds::node_capacity(&g, kind),
+        stack: kinds::STACK_PLACES,
         scratch: at.len(),
         blocks: at.len(),
         bytes: 0,

@@ -4,7 +4,7 @@
 
 use crate::blocks::{geometry, seal};
 use crate::edits::{bytes, expect, same};
-use crate::kinds::Kind;
+use crate::kinds::{self, Kind, STACK_PLACES};
 use crate::lent::{hex, Lent};
 use crate::library;
 use crate::links::{self, be32, put};
@@ -20,13 +20,8 @@ use oracle::{paper, Geometry, Tree};
 /// Every answer that a lookup can have.
 pub const ANSWERS: [u32; 15] = [0, 1, 3, 4, 5, 6, 7, 8, 9, 10, 11, 12, 13, 14, 29];
 
-/// Places of a stack that are enough for every number of levels, block size and
-/// version; a node of version 4 has the shorter header.
-const ENOUGH: usize = 2 * 9 * ((65_536 - 16) / 44);
-
-/// The same at up to 4,096 bytes: of these lookups cases of `replay` are made,
-/// which has its memory on its own stack.
-const ENOUGH_FOR_SMALL: usize = 2 * 10 * 100;
+/// The lookups of `stacks`, by what became of them.
+const STACKS: &str = "lookup, stack";
 
 /// The lookups of whole trees that are noted by their visits.
 const VISITS: &str = "lookup of a whole tree, visits";
@@ -121,11 +116,6 @@ pub fn under(g: &Geometry, image: &[u8], block: u32, level: u16) -> Vec<Rmap> {
     all
 }
 
-/// The places of the stack that 12 asks for.
-pub fn places(g: &Geometry, levels: u32) -> usize {
-    2 * levels as usize * paper::node_capacity(g, Tree::Rmap) as usize
-}
-
 struct Descent<'a> {
     of: &'a Lookup,
     visited: Vec<u32>,
@@ -177,7 +167,7 @@ impl Lookup {
             Some(1)
         } else if !(1..=9).contains(&self.levels) {
             Some(11)
-        } else if self.stack < places(&self.g, self.levels) {
+        } else if self.stack < STACK_PLACES {
             Some(12)
         } else if !ascend || self.answers < self.asked.len() {
             Some(29)
@@ -313,7 +303,7 @@ fn stored(r: &mut Random, g: Geometry, n: usize) -> Option<(Lookup, Vec<u32>, Ve
         root: at[total - 1],
         levels,
         asked: vec![],
-        stack: places(&g, levels),
+        stack: kinds::enough(r, &g, Kind::RMAP, levels),
         answers: 0,
     };
     Some((l, at, list))
@@ -437,30 +427,28 @@ fn damage(r: &mut Random, l: &mut Lookup, at: &[u32], marks: &[u32]) {
 }
 
 /// One to three of these: another root, other levels, another geometry, a shorter
-/// image, less lent, numbers that do not ascend. Other levels and another
-/// geometry come with `enough` places of the stack.
-fn otherwise(r: &mut Random, l: &mut Lookup, enough: usize) {
+/// image, less lent, numbers that do not ascend.
+fn otherwise(r: &mut Random, l: &mut Lookup) {
     for _ in 0..r.pick(&[1, 1, 2, 3]) {
         let size = l.g.block_size.clamp(512, 65536);
         let blocks = l.image.len() as u64 / size;
         let asked = l.asked.len() as u64;
-        let enough = l.stack.max(enough);
         match r.below(12) {
             0 => l.root = r.below(blocks + 2) as u32,
             1 => l.root = r.pick(&[u32::MAX, blocks as u32, 1 << 31]),
-            2 => (l.levels, l.stack) = (l.levels.wrapping_add(1), enough),
+            2 => l.levels = l.levels.wrapping_add(1),
             3 => l.levels = l.levels.wrapping_sub(1),
-            4 => (l.levels, l.stack) = (r.pick(&[0, 10, u32::MAX, 9]), enough),
-            5 => (l.g.version, l.stack) = (4, enough),
+            4 => l.levels = r.pick(&[0, 10, u32::MAX, 9]),
+            5 => l.g.version = 4,
             6 => l.g.agno ^= 1,
-            7 => (l.g, l.stack) = (geometry(r, true), enough),
+            7 => l.g = geometry(r, true),
             8 => {
                 let less = r.below(size + 1) as usize;
                 l.image.truncate(l.image.len().saturating_sub(less));
             }
             9 => {
-                let any = r.below(l.stack as u64 + 1) as usize;
-                l.stack = r.pick(&[l.stack.saturating_sub(1), any]);
+                let any = r.below(STACK_PLACES as u64 + 1) as usize;
+                l.stack = r.pick(&[STACK_PLACES - 1, any]);
             }
             10 => {
                 let any = r.below(asked + 1);
@@ -530,7 +518,7 @@ fn shared(r: &mut Random) -> Lookup {
         levels,
         answers: asked.len() + r.below(3) as usize,
         asked,
-        stack: places(&g, levels) + r.below(3) as usize,
+        stack: kinds::enough(r, &g, Kind::RMAP, levels),
     }
 }
 
@@ -551,7 +539,7 @@ pub fn small(r: &mut Random) -> Lookup {
         0 => ask(r, &mut l, &about),
         1 => {
             ask(r, &mut l, &about);
-            otherwise(r, &mut l, ENOUGH_FOR_SMALL);
+            otherwise(r, &mut l);
         }
         _ => {
             damage(r, &mut l, &at, &about);
@@ -626,7 +614,7 @@ fn built(r: &mut Random, g: Geometry, n: usize, tally: &mut Tally) -> (Lookup, V
     }
     for _ in 0..3 {
         let mut other = l.clone();
-        otherwise(r, &mut other, ENOUGH);
+        otherwise(r, &mut other);
         one(&other, tally);
     }
     for _ in 0..4 {
@@ -710,6 +698,41 @@ fn at_the_limit(l: &mut Lookup, walked: &Walked, tally: &mut Tally) {
     assert_eq!(due.left, Left::Zero);
 }
 
+/// A tree whose nodes have one block as every child: the two highest have two, all
+/// others one. Its one record lies over blocks 0 to 4, and all keys start at 0.
+pub fn folded(size: u64, levels: u32) -> Lookup {
+    let g = Geometry::v5(size);
+    let mut image = trees::folded(&g, Kind::RMAP, &trees::few_children(levels));
+    put(&mut image, 60, 5);
+    seal(&g, &mut image[..size as usize]);
+    Lookup {
+        g,
+        image,
+        root: levels - 1,
+        levels,
+        asked: vec![0, 4, 5],
+        stack: STACK_PLACES,
+        answers: 4,
+    }
+}
+
+/// Every block size and number of levels, with stacks as those of the walks'
+/// `stacks`: 12 refuses those below 18, and on any other the lookup comes to the
+/// same.
+fn stacks(tally: &mut Tally) {
+    for (size, levels) in kinds::sizes_and_levels() {
+        let mut l = folded(size, levels);
+        let larger = kinds::larger_stack(&l.g, Kind::RMAP, levels);
+        for stack in kinds::stacks_around(larger) {
+            l.stack = stack;
+            let found = one(&l, tally).number == 0;
+            assert_eq!(found, stack >= STACK_PLACES, "{}", l.input());
+            tally.note(STACKS, trees::stack_kind(stack, larger));
+        }
+    }
+    tally.met_ways(STACKS, 3);
+}
+
 pub fn lookups(r: &mut Random, scale: u64, tally: &mut Tally) {
     for _ in 0..6_000 * scale {
         let (g, n) = to_store(r);
@@ -718,7 +741,7 @@ pub fn lookups(r: &mut Random, scale: u64, tally: &mut Tally) {
     for _ in 0..3_000 * scale {
         let mut l = shared(r);
         one(&l, tally);
-        otherwise(r, &mut l, ENOUGH);
+        otherwise(r, &mut l);
         one(&l, tally);
     }
     for _ in 0..100 * scale {
@@ -730,6 +753,7 @@ pub fn lookups(r: &mut Random, scale: u64, tally: &mut Tally) {
         }
     }
     five_levels(r, tally);
+    stacks(tally);
     tally.met_both(VISITS);
     tally.met_all("lookup", &ANSWERS);
 }

@@ -261,7 +261,7 @@ fn walks(what: &str, t: &RealTree, kind: Kind, image: &[u8], linked: bool) -> Wa
     let a = kinds::bare_walk(&t.g, kind, image, t.root, t.levels);
     for w in Walk::BOTH {
         let mut m = Memory::new(Room {
-            stack: 2 * t.levels as usize * kinds::node_capacity(&t.g, kind),
+            stack: kinds::STACK_PLACES,
             scratch: t.blocks.len(),
             blocks: t.blocks.len(),
             bytes: t.records.len(),
@@ -300,7 +300,7 @@ fn lookups_of(what: &str, t: &RealTree, image: &[u8], walked: &Walked) -> u64 {
         root: t.root,
         levels: t.levels,
         asked: vec![],
-        stack: lookups::places(&t.g, t.levels),
+        stack: kinds::STACK_PLACES,
         answers: asked.len(),
     };
     let mut tally = Tally::default();

@@ -587,10 +587,37 @@ fn real_walk(walk: Walk, call: u32, t: &real::RealTree) -> Case {
         c.body.extend(b);
     }
     let mut c = c.output(0, n, &t.records);
-    let stack = 2 * t.levels as usize * kinds::node_capacity(&t.g, t.kind);
+    let stack = kinds::STACK_PLACES;
     c.head[21] = t.stored.len() as u32;
     c.head[29..].copy_from_slice(&[1, stack as u32, t.blocks.len() as u32]);
     c
+}
+
+/// Nine levels, walked by both calls and looked up in, with stacks of 17, 18 and 19
+/// places and of as many as document 01 asked for.
+fn stack_cases(cases: &mut Cases) {
+    let mut l = lookups::folded(512, 9);
+    let larger = kinds::larger_stack(&l.g, Kind::RMAP, l.levels);
+    for stack in [17, 18, 19, larger] {
+        l.stack = stack;
+        let w = trees::SmallWalk {
+            g: l.g,
+            kind: Kind::RMAP,
+            image: l.image.clone(),
+            root: l.root,
+            levels: l.levels,
+            stack,
+            scratch: 40,
+            blocks: 40,
+            bytes: 100,
+        };
+        let (a, linked) = walked(&w);
+        for (walk, call) in Walk::BOTH.into_iter().zip([7, 16]) {
+            let said = trees::walk_figures(&a, w.kind, walk.says(linked));
+            cases.add(walk_case(call, said, &w, &a.outcome));
+        }
+        cases.add(lookup_case(&l, &l.due()));
+    }
 }
 
 /// Lists of free extents: of each answer some, and of two lists those that say yes
@@ -686,6 +713,7 @@ pub fn sample(words: &[String]) {
     lookup_cases(&mut r, &mut cases);
     free_list_cases(&mut r, &mut cases);
     free_tree_cases(&mut r, &mut cases);
+    stack_cases(&mut cases);
     let mut out = Vec::new();
     for c in &cases.all {
         out.extend(number_bytes(&c.head));

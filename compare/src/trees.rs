@@ -3,7 +3,7 @@
 use crate::blocks::{geometry, seal};
 use crate::edits::{bytes, expect, same};
 use crate::free;
-use crate::kinds::{self, header_len, pointer, Kind};
+use crate::kinds::{self, header_len, pointer, Kind, STACK_PLACES};
 use crate::lent::{hex, Lent};
 use crate::library::{self, Walk};
 use crate::links;
@@ -15,6 +15,9 @@ use oracle::paper;
 use oracle::refusal::Outcome;
 use oracle::sample::Random;
 use oracle::{Geometry, Tree};
+
+/// The walks of `stacks`, by what became of them.
+pub const STACKS: &str = "walk, stack";
 
 fn one_plan(g: &Geometry, kind: Kind, records: u64, tally: &mut Tally) {
     let input = || format!("{g:?} {kind:?} records {records}");
@@ -388,6 +391,8 @@ impl Memory {
 pub fn walks(r: &mut Random, scale: u64, tally: &mut Tally) {
     walks_of(r, &Kind::OLDER, 8_000 * scale, tally);
     shared_children(r, &Kind::OLDER, 300 * scale, tally);
+    stacks(r, &Kind::OLDER, tally);
+    tally.met_ways(STACKS, 3);
     tally.met_both(links::LINKED);
 }
 
@@ -442,9 +447,8 @@ pub fn walks_of(r: &mut Random, of: &[Kind], times: u64, tally: &mut Tally) {
         }
         let root = *at.last().expect("a root");
         let levels = plan.len() as u32;
-        let stack = 2 * levels as usize * kinds::node_capacity(&g, kind);
         let plenty = Room {
-            stack: stack + r.below(3) as usize,
+            stack: kinds::enough(r, &g, kind, levels),
             scratch: total + 2,
             blocks: total + 1,
             bytes: list.len() + r.below(40) as usize,
@@ -457,8 +461,8 @@ pub fn walks_of(r: &mut Random, of: &[Kind], times: u64, tally: &mut Tally) {
         // Less memory.
         let mut room = plenty;
         match r.below(8) {
-            0 => room.stack = stack - 1,
-            1 => room.stack = stack,
+            0 => room.stack = STACK_PLACES - 1,
+            1 => room.stack = r.below(STACK_PLACES as u64) as usize,
             2 => (room.blocks, room.scratch) = (total, total),
             3 => (room.blocks, room.scratch) = (total, total - 1),
             4 => room.blocks = r.below(total as u64) as usize,
@@ -480,8 +484,7 @@ pub fn walks_of(r: &mut Random, of: &[Kind], times: u64, tally: &mut Tally) {
             7 => g2.agno ^= 1,
             _ => g2 = geometry(r, true),
         }
-        let mut room = plenty;
-        room.stack = 2 * 10 * 200;
+        let room = plenty;
         one_walk(&g2, kind2, &image, root2, levels2, room, tally);
         // A shorter image.
         let short = image.len() - r.below(size as u64 + 1) as usize;
@@ -529,6 +532,63 @@ pub fn walks_of(r: &mut Random, of: &[Kind], times: u64, tally: &mut Tally) {
     }
 }
 
+/// A tree whose nodes have one block as every child: block n is at level n, holds
+/// `counts[n]` records or entries, and all its pointers are to n - 1.
+pub fn folded(g: &Geometry, kind: Kind, counts: &[usize]) -> Vec<u8> {
+    let size = g.block_size as usize;
+    let mut image = vec![0; size * counts.len()];
+    for ((b, &n), level) in image.chunks_exact_mut(size).zip(counts).zip(0..) {
+        for i in 0..if level == 0 { 0 } else { n } {
+            links::put(b, pointer(g, kind, i), level - 1);
+        }
+        let (sb, l) = (g.superblock(), level as u16);
+        stamp(b, &sb, kind.shape(), g.agno, level, l, n as u16);
+    }
+    image
+}
+
+/// For `folded`: the two highest nodes have two children, all others one, and the
+/// leaf one record.
+pub fn few_children(levels: u32) -> Vec<usize> {
+    let count = |level| 1 + usize::from(level > 0 && level + 3 > levels);
+    (0..levels).map(count).collect()
+}
+
+/// Does 12 take a stack, and did it in document 01?
+pub fn stack_kind(stack: usize, larger: usize) -> &'static str {
+    match stack {
+        0..STACK_PLACES => "refused",
+        _ if stack < larger => "taken, refused by document 01",
+        _ => "taken, and by document 01",
+    }
+}
+
+/// Every block size and number of levels, with no stack, with stacks around 18
+/// places and around document 01's: 12 refuses those below 18, and on any other the
+/// walk comes to the same.
+pub fn stacks(r: &mut Random, of: &[Kind], tally: &mut Tally) {
+    for &kind in of {
+        for (size, levels) in kinds::sizes_and_levels() {
+            let mut g = Geometry::v5(size);
+            g.agno = r.below(3) as u32;
+            kinds::some_version(r, kind, &mut g);
+            let image = folded(&g, kind, &few_children(levels));
+            let larger = kinds::larger_stack(&g, kind, levels);
+            for stack in kinds::stacks_around(larger) {
+                let room = Room {
+                    stack,
+                    scratch: 64,
+                    blocks: 64,
+                    bytes: 100,
+                };
+                let walked = one_walk(&g, kind, &image, levels - 1, levels, room, tally);
+                assert_eq!(walked.is_some(), stack >= STACK_PLACES, "{room:?}");
+                tally.note(STACKS, stack_kind(stack, larger));
+            }
+        }
+    }
+}
+
 /// Nodes that share their children: far more visits than blocks.
 pub fn shared_children(r: &mut Random, of: &[Kind], times: u64, tally: &mut Tally) {
     for _ in 0..times {
@@ -539,25 +599,15 @@ pub fn shared_children(r: &mut Random, of: &[Kind], times: u64, tally: &mut Tall
         kinds::some_version(r, kind, &mut g);
         let levels = 2 + r.below(4) as u32;
         let cap = kinds::node_capacity(&g, kind);
-        let sb = g.superblock();
-        let mut image = vec![0; 512 * levels as usize];
-        for level in 0..levels as usize {
-            let b = &mut image[512 * level..][..512];
-            let n = if level == 0 {
-                1
-            } else {
-                1 + r.below(cap as u64) as usize
-            };
-            for i in 0..n {
-                if level > 0 {
-                    links::put(b, pointer(&g, kind, i), level as u32 - 1);
-                }
-            }
-            let (at, l) = (level as u32, level as u16);
-            stamp(b, &sb, kind.shape(), g.agno, at, l, n as u16);
-        }
+        let counts: Vec<usize> = (0..levels)
+            .map(|level| match level {
+                0 => 1,
+                _ => 1 + r.below(cap as u64) as usize,
+            })
+            .collect();
+        let image = folded(&g, kind, &counts);
         let room = Room {
-            stack: 2 * levels as usize * cap,
+            stack: kinds::enough(r, &g, kind, levels),
             scratch: 300,
             blocks: r.pick(&[300, 300, 64, 65, 30]),
             bytes: r.pick(&[8000, 8000, 500]),
@@ -609,7 +659,7 @@ pub fn small_walk(r: &mut Random, of: &[Kind]) -> SmallWalk {
     let mut w = SmallWalk {
         g,
         kind,
-        stack: 2 * levels as usize * kinds::node_capacity(&g, kind),
+        stack: kinds::enough(r, &g, kind, levels),
         scratch: total + 1,
         blocks: total + 1,
         bytes: list.len() + r.below(30) as usize,
@@ -619,22 +669,16 @@ pub fn small_walk(r: &mut Random, of: &[Kind]) -> SmallWalk {
     };
     let hurt = at[r.below(total as u64) as usize] as usize * 512;
     match r.below(26) {
-        0 => {
-            w.g.version = 9 - g.version;
-            w.stack += 100;
-        }
+        0 => w.g.version = 9 - g.version,
         1 => w.g.version = 7,
         2 => levels = r.pick(&[0, 10]),
-        3 => w.stack -= 1,
+        3 => w.stack = r.pick(&[0, STACK_PLACES - 1]),
         4 => w.scratch = total,
         5 => root = most as u32,
         6 => image.truncate(image.len() - 600),
         7 => w.blocks = total - 1,
         8 => w.bytes = (list.len() / 2).saturating_sub(1),
-        9 => {
-            levels += 1;
-            w.stack *= 2;
-        }
+        9 => levels += 1,
         10..=18 => {
             let fields = [0, 4, 5, 6, 7, 16, 23, 33, 48, 51];
             // Those of version 4 end with the siblings.
@@ -647,17 +691,7 @@ pub fn small_walk(r: &mut Random, of: &[Kind]) -> SmallWalk {
             // A tree of three levels whose nodes have one block as every child.
             (levels, root) = (3, 2);
             let children = r.pick(&[2, 9]);
-            image = vec![0; 3 * 512];
-            let sb = g.superblock();
-            for (level, b) in image.chunks_exact_mut(512).enumerate() {
-                let n = if level == 0 { 1 } else { children };
-                for i in 0..if level == 0 { 0 } else { n } {
-                    links::put(b, pointer(&g, kind, i), level as u32 - 1);
-                }
-                let (at, l) = (level as u32, level as u16);
-                stamp(b, &sb, kind.shape(), g.agno, at, l, n as u16);
-            }
-            w.stack = 6 * kinds::node_capacity(&g, kind);
+            image = folded(&g, kind, &[1, children, children]);
             (w.blocks, w.scratch, w.bytes) = (100, 100, 2400);
         }
         22 | 23 => {

@@ -5,7 +5,7 @@
 
 use crate::edits;
 use crate::held;
-use crate::kinds::{self, Kind};
+use crate::kinds::{self, Kind, STACK_PLACES};
 use crate::lent::hex;
 use crate::library::Edit;
 use crate::links;
@@ -202,8 +202,9 @@ pub fn walk(r: &mut Random, of: &[Kind], tally: &mut Tally) {
 
 fn lookup(r: &mut Random, tally: &mut Tally) {
     let mut l = lookups::small(r);
-    // The layer lends a stack that is long enough, and a place for each number.
-    l.stack = MOST;
+    // The layer lends as many places of the stack as 12 asks for, and a place for
+    // each number.
+    l.stack = STACK_PLACES;
     l.answers = l.asked.len();
     let Lookup { g, image, .. } = &l;
     let root = Root::new(l.root, l.levels, 0);

@@ -9,6 +9,32 @@ use crate::raw;
 /// level.
 pub const NO_SIBLING: u32 = u32::MAX;
 
+/// The places that the stack of a [`walk`], a [`walk_linked`] or a [`lookup`] has
+/// to have: a block and its next child for each of nine levels, whatever the
+/// levels, the kind and the block size of the tree.
+///
+/// ```
+/// use kf::{Geometry, Kind, Lent, Question, Tree, STACK_PLACES};
+/// // Blocks of 65,536 bytes, in which a node has room for 8,185 children.
+/// let g = Geometry::new(5, 65_536, 2, 0, [7; 16]);
+/// let image = Tree::build(&g, Kind::Refcount, &[], &[0]).unwrap();
+/// let walk = |places| {
+///     let (mut stack, mut scratch, mut blocks) = (vec![9; places], [9], [9]);
+///     let lent = Lent::new(&mut stack, &mut scratch, &mut blocks, &mut []);
+///     let walked = kf::walk(&g, Kind::Refcount, &image, 0, 1, lent);
+///     (walked, stack)
+/// };
+/// // All of the stack that was lent is zero afterwards.
+/// let (walked, stack) = walk(STACK_PLACES + 2);
+/// assert_eq!((walked.unwrap().visits, stack), (1, vec![0; 20]));
+/// assert_eq!(walk(STACK_PLACES).0.unwrap().visits, 1);
+/// // One place fewer is refused by 12, which touches nothing.
+/// let (refused, stack) = walk(STACK_PLACES - 1);
+/// assert_eq!(refused.unwrap_err().refusal.question(), Some(Question::Scratch));
+/// assert_eq!(stack, [9; 17]);
+/// ```
+pub const STACK_PLACES: usize = 18;
+
 /// CRC32C of the bytes, four at a step.
 ///
 /// ```
@@ -240,8 +266,8 @@ pub fn build(
     answer(n, &said, built)
 }
 
-/// What a walk is lent: a stack of [`Lent::stack_places`] places or more,
-/// as many places of scratch as the block list has, and the two lists.
+/// What a walk is lent: a stack of [`STACK_PLACES`] places or more, as many
+/// places of scratch as the block list has, and the two lists.
 #[derive(Debug)]
 #[non_exhaustive]
 pub struct Lent<'a> {
@@ -256,26 +282,6 @@ pub struct Lent<'a> {
 }
 
 impl<'a> Lent<'a> {
-    /// The places that the stack of a walk, or of a [`lookup`], has to have: twice
-    /// the levels, times the entries that a node has room for. It is 0 where 1 or
-    /// 11 refuses the walk.
-    ///
-    /// ```
-    /// let g = kf::Geometry::new(5, 4096, 100, 0, [7; 16]);
-    /// assert_eq!(kf::Lent::stack_places(&g, kf::Kind::Rmap, 3), 2 * 3 * 91);
-    /// assert_eq!(kf::Lent::stack_places(&g, kf::Kind::ByBlock, 3), 2 * 3 * 336);
-    /// // A block of version 4 has a shorter header, and so more room.
-    /// let g = kf::Geometry::new(4, 4096, 100, 0, [7; 16]);
-    /// assert_eq!(kf::Lent::stack_places(&g, kf::Kind::ByBlock, 3), 2 * 3 * 340);
-    /// ```
-    pub fn stack_places(g: &Geometry, kind: Kind, levels: u32) -> usize {
-        if !g.has_blocksize() || !(1..=9).contains(&levels) {
-            return 0;
-        }
-        let header = if g.version == 5 { 56 } else { 16 };
-        2 * levels as usize * ((g.blocksize as usize - header) / kind.entry_len())
-    }
-
     /// The four, as given; the walk asks whether stack and scratch are long
     /// enough (question 12).
     pub fn new(
@@ -380,12 +386,12 @@ fn walk_by(
 /// 14, 3 to 10 and 15.
 ///
 /// ```
-/// use kf::{build, walk, Geometry, Kind, Lent, Rmap};
+/// use kf::{build, walk, Geometry, Kind, Lent, Rmap, STACK_PLACES};
 /// let g = Geometry::new(5, 512, 2, 0, [7; 16]);
 /// let list = Rmap { startblock: 4, blockcount: 2, owner: 7, offset: 0 }.to_bytes();
 /// let mut image = [0; 1024];
 /// build(&g, Kind::Rmap, &list, &[1], &mut image[512..]).unwrap();
-/// let (mut stack, mut scratch) = ([0; 20], [0; 4]);
+/// let (mut stack, mut scratch) = ([0; STACK_PLACES], [0; 4]);
 /// let (mut blocks, mut records) = ([0; 4], [0; 96]);
 /// let lent = Lent::new(&mut stack, &mut scratch, &mut blocks, &mut records);
 /// let walked = walk(&g, Kind::Rmap, &image, 1, 1, lent).unwrap();
@@ -411,7 +417,7 @@ pub fn walk(
 /// linked.
 ///
 /// ```
-/// use kf::{build, plan, walk_linked, Geometry, Kind, Lent, Rmap};
+/// use kf::{build, plan, walk_linked, Geometry, Kind, Lent, Rmap, STACK_PLACES};
 /// let g = Geometry::new(5, 512, 9, 0, [7; 16]);
 /// let list: Vec<u8> = (0..50)
 ///     .flat_map(|i| Rmap { startblock: 8 * i, blockcount: 2, owner: 7, offset: 0 }.to_bytes())
@@ -428,7 +434,7 @@ pub fn walk(
 /// }
 ///
 /// let records_of = |image: &[u8]| {
-///     let (mut stack, mut scratch) = ([0; 40], [0; 4]);
+///     let (mut stack, mut scratch) = ([0; STACK_PLACES], [0; 4]);
 ///     let (mut blocks, mut records) = ([0; 4], vec![0; 50 * 24]);
 ///     let lent = Lent::new(&mut stack, &mut scratch, &mut blocks, &mut records);
 ///     let (walked, linked) = walk_linked(&g, Kind::Rmap, image, 4, 2, lent).unwrap();
@@ -461,8 +467,8 @@ pub fn walk_linked(
 /// How many records of the reverse map lie over each of the block numbers
 /// `asked`, in one descent from the root; `answers[i]` is that of `asked[i]`.
 /// Gives the visits. The image is the group, block n at n times the block size.
-/// Questions 1, 11, 12 (the stack alone, of [`Lent::stack_places`] places or
-/// more) and 29, then at each block 13, 14 and 3 to 10.
+/// Questions 1, 11, 12 (the stack alone, of [`STACK_PLACES`] places or more) and
+/// 29, then at each block 13, 14 and 3 to 10.
 ///
 /// A child of a node is skipped where none of the numbers lies from its low
 /// key's start to its high key's start, both included. The root is visited
@@ -475,7 +481,7 @@ pub fn walk_linked(
 /// say that a block is free.
 ///
 /// ```
-/// use kf::{build, lookup, Geometry, Kind, Lent, Question, Rmap};
+/// use kf::{build, lookup, Geometry, Kind, Question, Rmap, STACK_PLACES};
 /// let g = Geometry::new(5, 512, 9, 0, [7; 16]);
 /// // 50 records: blocks 8 and 9, 16 and 17, .., 400 and 401.
 /// let list: Vec<u8> = (1..=50)
@@ -484,8 +490,7 @@ pub fn walk_linked(
 /// // Three leaves and the root, one after another; a walk visits all four.
 /// let mut image = [0; 4 * 512];
 /// build(&g, Kind::Rmap, &list, &[0, 1, 2, 3], &mut image).unwrap();
-/// let mut stack = vec![0; Lent::stack_places(&g, Kind::Rmap, 2)];
-/// let mut answers = [0; 4];
+/// let (mut stack, mut answers) = ([0; STACK_PLACES], [0; 4]);
 ///
 /// // Inside records of the first leaf and between them: the root and that leaf.
 /// let asked = [8, 9, 10, 17];
