@@ -107,7 +107,7 @@ small-lookup =
     let a = every-built-lookup small list numbers (builtBytes small kind.Rmap list numbers) image 1536 room 18 asked 6 standing long-enough askable .3 in
     (a .descent, a .admitted, a .finishes, λ l. a .answers l ∙ ap (bytes.withBytes l 0) counted)
 
--- nor was it another on the 40 places that two levels took before: on them 12 did not refuse it
+-- on 18 places it is what it was on the 40 that two levels took before, and there it is what it was
 pub small-before : lookupOf small image 2 2 18 asked 6 ≡ largerLookupOf small image 2 2 40 asked 6
 unfolding tree.headerLen
 small-before = every-lookup-stack small image 2 2 18 40 asked 6 (omega arith) (omega arith)
