@@ -23,7 +23,7 @@ use Rattle.walks.specs.Shapes.{shapeOf, numrecsOf}
 use Rattle.walks.specs.Path.{childAt, fanOf, childrenFrom, every, dueIn, pathOf, Opened, withPair, lowOf, Moved}
 use Rattle.walks.specs.declared.visit.Count.{Count}
 use Rattle.walks.specs.inner.WalkState.{seenOf, stepOf, Wrote}
-use Rattle.walks.specs.WalkCall.{walkIn}
+use Rattle.walks.specs.WalkCall.{stackPlaces, walkIn}
 use Rattle.walks.proofs.LookLaws.{part-long, node-most, under-leaf, under-node}
 use Rattle.walks.proofs.WalkLaws.{restOf, rest-done, rest-good, Walking, walking-first, walking-next, step-good}
 use Rattle.walks.proofs.PathLaws.{path-below, path-cons, path-end, in-block}
@@ -94,7 +94,7 @@ module _ (keep : List ℕ → ℕ → Bool) (s : Shape) (image : List ℕ) where
   abbrev dueBy : ℕ → ℕ → ℕ → List Visit
   dueBy = dueIn keep s image
 
-  pub path-with : (p : List ℕ) (block level levels : ℕ) (below : List Visit) → 18 ≤ length p → levels ≤ 9 → level < levels → (level ≡ 0 → below ≡ [])
+  pub path-with : (p : List ℕ) (block level levels : ℕ) (below : List Visit) → stackPlaces ≤ length p → levels ≤ 9 → level < levels → (level ≡ 0 → below ≡ [])
       → (0 < level → below ≡ dueBy level block 0)
       → below ++ pathOf dueBy p (level + 1) (levels - (level + 1)) ≡ pathOf dueBy (withPair p block level) (lowOf level) (levels - lowOf level)
   path-with p block zero levels below h few k leaf node = ap (λ (x : List Visit). x ++ pathOf dueBy p 1 (levels - 1)) (leaf refl)
@@ -117,7 +117,7 @@ module _ (s : Shape) (image : List ℕ) where
   abbrev due : ℕ → ℕ → ℕ → List Visit
   due = dueIn every s image
 
-  pub path-open : (p : List ℕ) (block level levels : ℕ) (below : List Visit) → 18 ≤ length p → levels ≤ 9 → level < levels → Looked s image block level below
+  pub path-open : (p : List ℕ) (block level levels : ℕ) (below : List Visit) → stackPlaces ≤ length p → levels ≤ 9 → level < levels → Looked s image block level below
       → below ++ pathOf due p (level + 1) (levels - (level + 1)) ≡ pathOf due (withPair p block level) (lowOf level) (levels - lowOf level)
   path-open p block level levels below h few k l =
       let part : List ℕ = blockIn (s .size) image block in
@@ -187,7 +187,7 @@ module _ (s : Shape) (image : List ℕ) where
 -- ---- the walk
 
 -- before the first turn
-pub walking-begin : (s : Shape) (image : List ℕ) (root levels limit places w : ℕ) (stack scratch out : List ℕ) → 1 ≤ levels → levels ≤ 9 → 18 ≤ length stack → places ≤ length scratch
+pub walking-begin : (s : Shape) (image : List ℕ) (root levels limit places w : ℕ) (stack scratch out : List ℕ) → 1 ≤ levels → levels ≤ 9 → stackPlaces ≤ length stack → places ≤ length scratch
     → Walking (lookIn s image) limit places (length out) w (walkIn s image root levels limit places (length out)) out scratch out 0 0
     (visitOf root (levels - 1) ∷ pathOf (dueIn every s image) stack (levels - 1 + 1) (levels - (levels - 1 + 1)))
     × Opened s image stack (levels - 1 + 1) levels

@@ -19,6 +19,7 @@ use Rattle.blocks.specs.Tree.{headerLen, keysLen}
 use Rattle.blocks.proofs.Laws.{places-fit, header-fits, blocksize-within}
 use Rattle.walks.specs.Walk.{Visit, visitOf, Shape, perNode, blockIn, firstPointer}
 use Rattle.walks.specs.Shapes.{shapeOf}
+use Rattle.walks.specs.WalkCall.{stackPlaces}
 use Rattle.walks.specs.Path.{childAt, fanOf, childrenFrom, dueIn, fanIn, pathOf, NoneLeft, Moved}
 
 -- ---- a field of a block of an image
@@ -137,7 +138,7 @@ module _ (keep : List ℕ → ℕ → Bool) (s : Shape) (image : List ℕ) where
       ∙ path-end due p (low + (levels - low)) levels (omega arith)
 
   -- a child that is taken was the first that is due, unless it is skipped
-  pub path-moved : (p p′ : List ℕ) (block level low levels : ℕ) → 18 ≤ length p → levels ≤ 9 → Moved s image block level low levels p p′
+  pub path-moved : (p p′ : List ℕ) (block level low levels : ℕ) → stackPlaces ≤ length p → levels ≤ 9 → Moved s image block level low levels p p′
       → pathOf due p low (levels - low)
       ≡ kept (keep (part (getD p ((level + 1) * 2) 0)) (getD p ((level + 1) * 2 + 1) 0)) (visitOf block level) (pathOf due p′ (level + 1) (levels - (level + 1)))
   path-moved p p′ block level low levels long few m =

@@ -48,8 +48,10 @@ EveryAlike =
     (g : Geometry) (kind : TreeKind) (image : List ℕ) (root levels : ℕ) (pairs pairs′ larger larger′ scratch blocks out : List ℕ)
     → stackPlaces ≤ length pairs → largerStack g kind levels ≤ length larger
     → (r r′ : Walked) (scratch₁ scratch₂ blocks₁ blocks₂ out₁ out₂ : List ℕ)
-    → WalkIs (recordLen kind) levels (walkOf g kind image root levels (lent pairs scratch blocks out)) r pairs pairs′ scratch scratch₁ blocks blocks₁ out out₁
-    → WalkIs (recordLen kind) levels (largerWalkOf g kind image root levels (lent larger scratch blocks out)) r′ larger larger′ scratch scratch₂ blocks blocks₂ out out₂
+    → WalkIs (recordLen kind) levels (walkOf g kind image root levels (lent pairs scratch blocks out)) r
+    pairs pairs′ scratch scratch₁ blocks blocks₁ out out₁
+    → WalkIs (recordLen kind) levels (largerWalkOf g kind image root levels (lent larger scratch blocks out)) r′
+    larger larger′ scratch scratch₂ blocks blocks₂ out out₂
     → Alike r r′ scratch₁ scratch₂ blocks₁ blocks₂ out₁ out₂
 
 -- And each call that 12 did not refuse before comes to the same, on the memory that it was lent.
