@@ -14,7 +14,8 @@ use Rattle.walks.specs.declared.walk.Linking.{Linking}
 use Rattle.walks.specs.declared.refusal.WalkRefusal.{WalkRefusal}
 use Rattle.walks.specs.Memory.{zeros}
 use Rattle.walks.specs.Walk.{Visit, visitOf, Trace, finished, spent, failed, met, run, visits, records, byLevel, Shape, lookIn}
-use Rattle.walks.specs.inner.WalkState.{seenOf, left}
+use Rattle.walks.specs.OneVisit.{seenOf}
+use Rattle.walks.specs.inner.WalkState.{left}
 use Rattle.walks.specs.WalkCall.{Counts, Report, reportOf, report, walkIn}
 use Rattle.walks.specs.WalkAnswer.{walkNumber, walkValues, walkedReport, WalkIs}
 use Rattle.walks.specs.Links.{saysLinked, LinkingIs}

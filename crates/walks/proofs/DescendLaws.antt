@@ -22,10 +22,11 @@ use Rattle.walks.specs.Walk.{Visit, visitOf, Look, bad, good, Trace, run
 use Rattle.walks.specs.Shapes.{shapeOf, numrecsOf}
 use Rattle.walks.specs.Path.{childAt, fanOf, childrenFrom, every, dueIn, pathOf, Opened, withPair, lowOf, Moved}
 use Rattle.walks.specs.declared.visit.Count.{Count}
-use Rattle.walks.specs.inner.WalkState.{seenOf, stepOf, Wrote}
+use Rattle.walks.specs.OneVisit.{seenOf, stepOf, Wrote}
+use Rattle.walks.specs.Underway.{restOf, Walking}
 use Rattle.walks.specs.WalkCall.{stackPlaces, walkIn}
 use Rattle.walks.proofs.LookLaws.{part-long, node-most, under-leaf, under-node}
-use Rattle.walks.proofs.WalkLaws.{restOf, rest-done, rest-good, Walking, walking-first, walking-next, step-good}
+use Rattle.walks.proofs.WalkLaws.{rest-done, rest-good, walking-first, walking-next, step-good}
 use Rattle.walks.proofs.PathLaws.{path-below, path-cons, path-end, in-block}
 
 -- ---- a walk skips no child
@@ -117,15 +118,19 @@ module _ (s : Shape) (image : List ℕ) where
   abbrev due : ℕ → ℕ → ℕ → List Visit
   due = dueIn every s image
 
-  pub path-open : (p : List ℕ) (block level levels : ℕ) (below : List Visit) → stackPlaces ≤ length p → levels ≤ 9 → level < levels → Looked s image block level below
-      → below ++ pathOf due p (level + 1) (levels - (level + 1)) ≡ pathOf due (withPair p block level) (lowOf level) (levels - lowOf level)
-  path-open p block level levels below h few k l =
+  -- all children of a node are due
+  pub due-below : (block level : ℕ) (below : List Visit) → Looked s image block level below → 0 < level → below ≡ due level block 0
+  due-below block level below l up =
       let part : List ℕ = blockIn (s .size) image block in
       let z : firstPointer s ≡ firstPointer s + 0 * 4 = omega arith in
       let all : fanOf part ≡ fanOf part - 0 = omega arith in
-      path-with every s image p block level levels below h few k (l .leaf)
-      (λ up. l .node up ∙ ap (λ (x : ℕ). pointers part x (level - 1) (fanOf part)) z ∙ sym (children-all s part (level - 1) 0 (fanOf part))
-      ∙ ap (childrenFrom (every part) s part (level - 1) 0) all)
+      l .node up ∙ ap (λ (x : ℕ). pointers part x (level - 1) (fanOf part)) z ∙ sym (children-all s part (level - 1) 0 (fanOf part))
+      ∙ ap (childrenFrom (every part) s part (level - 1) 0) all
+
+  pub path-open : (p : List ℕ) (block level levels : ℕ) (below : List Visit) → stackPlaces ≤ length p → levels ≤ 9 → level < levels → Looked s image block level below
+      → below ++ pathOf due p (level + 1) (levels - (level + 1)) ≡ pathOf due (withPair p block level) (lowOf level) (levels - lowOf level)
+  path-open p block level levels below h few k l =
+      path-with every s image p block level levels below h few k (l .leaf) (due-below block level below l)
 
 -- level, or above it
 by-level : (P : ℕ → Type 0) (level l : ℕ) → level ≤ l → P level → (level < l → P l) → P l
@@ -217,6 +222,18 @@ module _ (g : Geometry) (kind : TreeKind) (image : List ℕ) (levels : ℕ) wher
   abbrev paths : List ℕ → ℕ → List Visit
   paths p l = pathOf (dueIn every sh image) p l (levels - l)
 
+  -- what is below it is due before what was due
+  pub walking-visit : {limit places room w : ℕ} {total : Trace} {out₀ scratch out : List ℕ} (block level : ℕ) (c : Count) (later : List Visit)
+      → Walking (lookIn sh image) limit places room w total out₀ scratch out (c .visits) (c .bytes) (visitOf block level ∷ later)
+      → (n : Count) (scratch′ out′ : List ℕ) → c .visits < limit → block < 2 ^ 32 → (below : List Visit) (bytes : List ℕ)
+      → lookIn sh image (visitOf block level) ≡ good below bytes → stepOf places room c (good below bytes) ≡ done n
+      → Wrote (done n) (visitOf block level) (good below bytes) c scratch scratch′ out out′
+      → Walking (lookIn sh image) limit places room w total out₀ scratch′ out′ (n .visits) (n .bytes) (below ++ later)
+  walking-visit {limit} {places} {room} {w} {total} {out₀} {scratch} {out} block level c later k n scratch′ out′ v b32 below bytes e step wr =
+      let q = step-good places room c below bytes n step in
+      subst (λ (m : Count). Walking (lookIn sh image) limit places room w total out₀ scratch′ out′ (m .visits) (m .bytes) (below ++ later)) (sym (q .2))
+      (walking-next k (visitOf block level) later below bytes scratch′ out′ (below ++ later) refl v b32 e (q .0) (q .1) (wr .noted) (wr .copied) refl)
+
   pub walking-turn : geometryOk g ≡ true → {limit places room w : ℕ} {total : Trace} {out₀ scratch out : List ℕ} (stack : List ℕ) (block level : ℕ) (c : Count)
       → Walking (lookIn sh image) limit places room w total out₀ scratch out (c .visits) (c .bytes) (visitOf block level ∷ paths stack (level + 1)) → Opened sh image stack (level + 1) levels → level < levels
       → (n : Count) (scratch′ out′ : List ℕ) → c .visits < limit → block < 2 ^ 32 → (l : Look) → lookIn sh image (visitOf block level) ≡ l → stepOf places room c l ≡ done n
@@ -225,11 +242,10 @@ module _ (g : Geometry) (kind : TreeKind) (image : List ℕ) (levels : ℕ) wher
   unfolding stepOf
   walking-turn ok {limit} {places} {room} {w} {total} {out₀} {scratch} {out} stack block level c k o h n scratch′ out′ v b32 (bad m x) e step wr = let z : _≡_ {A = ℕ} 0 1 = cc in absurd (omega arith)
   walking-turn ok {limit} {places} {room} {w} {total} {out₀} {scratch} {out} stack block level c k o h n scratch′ out′ v b32 (good below bytes) e step wr =
-      let q = step-good places room c below bytes n step in
-      let lk = looked g kind ok image block level below bytes e in
-      subst (λ (m : Count). Walking (lookIn sh image) limit places room w total out₀ scratch′ out′ (m .visits) (m .bytes) (paths (withPair stack block level) (lowOf level)) × Opened sh image (withPair stack block level) (lowOf level) levels) (sym (q .2)) (
-        walking-next k (visitOf block level) (paths stack (level + 1)) below bytes scratch′ out′ (paths (withPair stack block level) (lowOf level)) refl v b32 e (q .0) (q .1) (wr .noted) (wr .copied)
-            (sym (path-open sh image stack block level levels below (o .places) (o .few) h lk)),
+      let lk = looked g kind ok image block level below bytes e in (
+        subst (λ (d : List Visit). Walking (lookIn sh image) limit places room w total out₀ scratch′ out′ (n .visits) (n .bytes) d)
+            (path-open sh image stack block level levels below (o .places) (o .few) h lk)
+            (walking-visit block level c (paths stack (level + 1)) k n scratch′ out′ v b32 below bytes e step wr),
         opened-open sh image stack block level levels below h lk o,
       )
 

@@ -11,7 +11,8 @@ use lib.Seq.{take-suc, take-take}
 use lib.Dec.{ltb, eqb}
 use borrow.Author.Tests.{eq-eqb, ne-eqb, lt-ltb, le-ltb, ltb-true, ltb-false, eqb-true, eqb-false}
 use Rattle.walks.specs.Walk.{Visit, visitOf, atLevel, byLevel}
-use Rattle.walks.specs.inner.WalkState.{placeOf, visitAt, seenOf, levelIn}
+use Rattle.walks.specs.OneVisit.{placeOf, visitAt, seenOf}
+use Rattle.walks.specs.inner.WalkState.{levelIn}
 
 -- ---- the visits in the level scratch
 

@@ -114,11 +114,11 @@ module _ (keep : List ℕ → ℕ → Bool) (s : Shape) (image : List ℕ) where
   abbrev part : ℕ → List ℕ
   part block = blockIn (s .size) image block
 
-  due-none : (level block i : ℕ) → fanOf (part block) ≤ i → due level block i ≡ []
+  pub due-none : (level block i : ℕ) → fanOf (part block) ≤ i → due level block i ≡ []
   unfolding childrenFrom
   due-none level block i h = let z : fanOf (part block) - i ≡ 0 = omega arith in rw z
 
-  due-next : (level block i : ℕ) → i < fanOf (part block)
+  pub due-next : (level block i : ℕ) → i < fanOf (part block)
       → due level block i ≡ kept (keep (part block) i) (childAt s (part block) (level - 1) i) (due level block (i + 1))
   unfolding childrenFrom
   due-next level block i h =

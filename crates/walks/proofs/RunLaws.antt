@@ -1,9 +1,9 @@
--- Laws of every walk, over any way to look at a block: two lists of blocks one after the other, more visits, and the levels of the visits.
+-- Laws of every walk, over any way to look at a block: more visits, and the levels of the visits.
 -- Assumes nothing.
 use Prim.Native.Nat.{ℕ, zero, suc, _+_, _-_, _≤_, _<_}
 use native.Mathlib.Omega.{arith}
 use mathlib.Core.Path.{_≡_, refl, ap, _∙_}
-use mathlib.Core.List.{List, [], _∷_, _++_, append-assoc}
+use mathlib.Core.List.{List, [], _∷_, _++_}
 use mathlib.Core.Bool.{Bool, true, false, cond, _&&_}
 use lib.ListN.{length}
 use lib.Dec.{ltb, leb}
@@ -124,50 +124,3 @@ fit-length p r finished = omega arith
 fit-length p r spent = omega arith
 fit-length p r (failed n x) = omega arith
 fit-length p r (met v b t) = cut-length p (ltb 0 p) (leb (length b) r) v b (fit (p - 1) (r - length b) t) refl (fit-length (p - 1) (r - length b) t)
-
--- ---- a walk of two lists of blocks is one walk after the other
-
--- a walk after a walk, with the blocks and the bytes read so far
-unfoldable pub andThen : Trace → ℕ → ℕ → (ℕ → ℕ → Trace) → Trace
-andThen finished v b k = k v b
-andThen spent v b k = spent
-andThen (failed n x) v b k = failed n x
-andThen (met w bytes t) v b k = met w bytes (andThen t (v + 1) (b + length bytes) k)
-
-module _ (look : Visit → Look) (limit places room : ℕ) where
-  -- the walk of what is due after so many blocks and bytes
-  abbrev pub from : ℕ → ℕ → List Visit → Trace
-  from v b due = fit (places - v) (room - b) (run look (limit - v) due)
-
-  cut-then : (x : Bool) (v b : ℕ) (w : Visit) (bytes : List ℕ) (s t : Trace) (k : ℕ → ℕ → Trace) → s ≡ andThen t (v + 1) (b + length bytes) k
-      → cond x (met w bytes s) (failed 15 none) ≡ andThen (cond x (met w bytes t) (failed 15 none)) v b k
-  unfolding andThen
-  cut-then true v b w bytes s t k e = ap (met w bytes) e
-  cut-then false v b w bytes s t k e = refl
-
-  after-then : (n v b : ℕ) (w : Visit) (xs ys : List Visit) (l : Look)
-      → ((below : List Visit) (bytes : List ℕ) → fit (places - v - 1) (room - b - length bytes) (run look n (below ++ (xs ++ ys)))
-      ≡ andThen (fit (places - v - 1) (room - b - length bytes) (run look n (below ++ xs))) (v + 1) (b + length bytes) (λ v′ b′. from v′ b′ ys))
-      → fit (places - v) (room - b) (after w (λ below. run look n (below ++ (xs ++ ys))) l)
-      ≡ andThen (fit (places - v) (room - b) (after w (λ below. run look n (below ++ xs)) l)) v b (λ v′ b′. from v′ b′ ys)
-  unfolding fit andThen
-  after-then n v b w xs ys (bad k x) h = refl
-  after-then n v b w xs ys (good below bytes) h =
-      cut-then (ltb 0 (places - v) && leb (length bytes) (room - b)) v b w bytes _ _ (λ v′ b′. from v′ b′ ys) (h below bytes)
-
-  from-append : (n v b : ℕ) (xs ys : List Visit) → limit - v ≡ n
-      → fit (places - v) (room - b) (run look n (xs ++ ys)) ≡ andThen (fit (places - v) (room - b) (run look n xs)) v b (λ v′ b′. from v′ b′ ys)
-  unfolding run fit andThen
-  from-append zero v b [] ys e = rw e
-  from-append zero v b (w ∷ xs) ys e = refl
-  from-append (suc n) v b [] ys e = rw e
-  from-append (suc n) v b (w ∷ xs) ys e =
-      after-then n v b w xs ys (look w)
-      (λ below bytes.
-      let x : places - v - 1 ≡ places - (v + 1) = omega arith in
-      let y : room - b - length bytes ≡ room - (b + length bytes) = omega arith in
-      rw (x, y, ← append-assoc below xs ys) (from-append n (v + 1) (b + length bytes) (below ++ xs) ys (omega arith)))
-
-  -- the walk of xs ++ ys after so many blocks and bytes
-  pub rest-append : (v b : ℕ) (xs ys : List Visit) → from v b (xs ++ ys) ≡ andThen (from v b xs) v b (λ v′ b′. from v′ b′ ys)
-  rest-append v b xs ys = from-append (limit - v) v b xs ys refl

@@ -37,7 +37,7 @@ pub every-stack : EveryStack
 every-stack g kind image root levels m places p q = larger-same g kind levels m places _ p q
 
 -- two calls that come to the same are alike
-alike : (w levels : ℕ) (o o′ : Outcome Trace) (r r′ : Walked) (pairs pairs′ larger larger′ scratch scratch₁ scratch₂ blocks blocks₁ blocks₂ out out₁ out₂ : List ℕ) → o ≡ o′
+pub alike : (w levels : ℕ) (o o′ : Outcome Trace) (r r′ : Walked) (pairs pairs′ larger larger′ scratch scratch₁ scratch₂ blocks blocks₁ blocks₂ out out₁ out₂ : List ℕ) → o ≡ o′
     → WalkIs w levels o r pairs pairs′ scratch scratch₁ blocks blocks₁ out out₁ → WalkIs w levels o′ r′ larger larger′ scratch scratch₂ blocks blocks₂ out out₂
     → Alike r r′ scratch₁ scratch₂ blocks₁ blocks₂ out₁ out₂
 alike w levels o o′ r r′ pairs pairs′ larger larger′ scratch scratch₁ scratch₂ blocks blocks₁ blocks₂ out out₁ out₂ e p q =

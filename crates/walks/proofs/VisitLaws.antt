@@ -13,7 +13,7 @@ use Rattle.walks.specs.declared.visit.Count.{Count}
 use Rattle.walks.specs.declared.visit.Step.{Step}
 use Rattle.walks.specs.declared.visit.Step.the-variants.{Next, Stop}
 use Rattle.walks.specs.Walk.{Visit, visitOf, Look, bad, good, blockIn}
-use Rattle.walks.specs.inner.WalkState.{stepOutcome, Beside, stepOf, onward, Wrote}
+use Rattle.walks.specs.OneVisit.{stepOutcome, Beside, stepOf, onward, Wrote}
 use Rattle.walks.proofs.PathLaws.{field}
 
 -- the part of the image that the code takes is a leaf's records

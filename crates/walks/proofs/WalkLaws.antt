@@ -16,8 +16,9 @@ use Rattle.codec.proofs.Parts.{length-withBytes}
 use Rattle.codec.proofs.Stores.{withBytes-is, take-withBytes, drop-withBytes}
 use Rattle.walks.specs.declared.visit.Count.{Count}
 use Rattle.walks.specs.Walk.{Visit, Look, bad, good, Trace, finished, spent, failed, met, after, run, fit, visits, records}
-use Rattle.walks.specs.inner.WalkState.{placeOf, seenOf, nextOf, stepOf}
+use Rattle.walks.specs.OneVisit.{placeOf, seenOf, nextOf, stepOf}
 use Rattle.walks.specs.WalkCall.{Counts, Report, reportOf, ifFinished}
+use Rattle.walks.specs.Underway.{restOf, endOf, Walking}
 use Rattle.walks.proofs.LevelLaws.{visit-place, seen-append}
 
 -- ---- one visit's step
@@ -65,9 +66,6 @@ step-count places room c n (bad k x) e = let z : _≡_ {A = ℕ} 0 1 = cc in abs
 step-count places room c n (good below bytes) e = ap (λ (k : Count). k .visits) (step-good places room c below bytes n e .2)
 
 -- ---- the walk of what is still due, after v blocks and b bytes
-
-unfoldable pub restOf : (Visit → Look) → ℕ → ℕ → ℕ → ℕ → ℕ → List Visit → Trace
-restOf look limit places room v b due = fit (places - v) (room - b) (run look (limit - v) due)
 
 pub rest-done : (look : Visit → Look) (limit places room v b : ℕ) → restOf look limit places room v b [] ≡ finished
 unfolding restOf run fit
@@ -119,9 +117,6 @@ module _ (look : Visit → Look) (limit places room v b : ℕ) (x : Visit) (due 
 
 -- ---- the report of a walk from so many blocks and bytes on
 
-abbrev pub endOf : ℕ → ℕ → ℕ → Trace → Report
-endOf w v b t = reportOf w (v + length (visits t)) (b + length (records t)) t
-
 module _ (w v b : ℕ) where
   pub end-finished : endOf w v b finished ≡ record { outcome = done (record { visits = v; records = b / w; bytes = b }); passed = v }
   unfolding reportOf visits records
@@ -164,18 +159,6 @@ refused-is w v b (failed m z) n u p x y e = refl
 refused-is w v b (met z bytes t) n u p x y e = refused-is w v b t n u p x y e
 
 -- ---- what a walk keeps from visit to visit
-
--- after v blocks and b bytes: the whole walk is what was read, in the lent memory, and the walk of what is still due
-pub record Walking (look : Visit → Look) (limit places room w : ℕ) (total : Trace) (out₀ scratch out : List ℕ) (v b : ℕ) (due : List Visit) : Type 0 where
-  pub ended : endOf w 0 0 total ≡ endOf w v b (restOf look limit places room v b due)
-  pub seen : visits total ≡ seenOf (take v scratch) ++ visits (restOf look limit places room v b due)
-  pub read : records total ≡ take b out ++ records (restOf look limit places room v b due)
-  pub tail : drop b out ≡ drop b out₀
-  pub within : v ≤ limit
-  pub placed : v ≤ places
-  pub stored : b ≤ room
-  pub size : length out ≡ room
-  pub noting : places ≤ length scratch
 
 module _ {look : Visit → Look} {limit places room w : ℕ} {total : Trace} {out₀ scratch out : List ℕ} {v b : ℕ} {due : List Visit}
     (k : Walking look limit places room w total out₀ scratch out v b due) where

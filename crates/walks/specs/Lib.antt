@@ -11,4 +11,6 @@ pub mod Links
 pub mod Forest
 pub mod First
 pub mod Path
+pub mod OneVisit
+pub mod Underway
 pub mod inner

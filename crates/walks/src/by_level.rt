@@ -5,7 +5,8 @@ ghost use Prim.Native.Nat.{_+_, _≤_};
 ghost use lib.ListN.{length, take};
 ghost use Rattle.codec.specs.Bytes.{withBytes};
 ghost use Rattle.walks.specs.Walk.{byLevel};
-ghost use Rattle.walks.specs.inner.WalkState.{seenOf, levelIn};
+ghost use Rattle.walks.specs.OneVisit.{seenOf};
+ghost use Rattle.walks.specs.inner.WalkState.{levelIn};
 
 // A place of the level scratch is level × LEVEL_STEP + block.
 pub(crate) const LEVEL_STEP: u64 = 0x1_0000_0000;
@@ -38,7 +39,7 @@ fn gather(scratch: &[u64], n: usize, level: u64, list: &mut [u32], at: usize) ->
 }
 
 // Stores the blocks visited by level, leaves first.
-pub(crate) fn order(scratch: &[u64], n: usize, levels: u64, list: &mut [u32])
+pub fn order(scratch: &[u64], n: usize, levels: u64, list: &mut [u32])
     requires { ⌜ (n ≤ length (now scratch)) × (n ≤ length (now list)) ⌝ }
     ensures { λ _. ⌜ now (list .exit) ≡ withBytes (now (list .entry)) 0 (byLevel levels (seenOf (take n (now (scratch .entry))))) ⌝ }
 {

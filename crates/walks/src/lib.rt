@@ -1,10 +1,11 @@
 // Trees of a group read: lent memory, what is asked first, the look at a block, the blocks that are due, the links of a level, and the walk.
-mod by_level;
+pub mod by_level;
+pub mod closing;
 pub mod first;
 mod links;
 pub mod look;
 pub mod memory;
 pub mod path;
 pub mod refusal;
-mod visit;
+pub mod visit;
 pub mod walk;

@@ -28,7 +28,7 @@ pub enum Next {
 }
 
 // How many children a block says it has.
-fn fan(g: Geometry, image: &[u8], block: u32) -> usize
+pub fn fan(g: Geometry, image: &[u8], block: u32) -> usize
     requires { ⌜ (geometryOk g ≡ true) × ((block + 1) * g .blocksize ≤ length (now image)) ⌝ }
     ensures { λ r. ⌜ r ≡ fanOf (blockIn (g .blocksize) (now (image .entry)) block) ⌝ }
 {
@@ -47,7 +47,7 @@ pub fn first_pointer(g: Geometry, kind: TreeKind) -> usize
 }
 
 // Its child i, where the pointers begin at `first`.
-fn child(g: Geometry, kind: TreeKind, image: &[u8], first: usize, block: u32, i: usize) -> u32
+pub fn child(g: Geometry, kind: TreeKind, image: &[u8], first: usize, block: u32, i: usize) -> u32
     requires { ⌜ (geometryOk g ≡ true) × ((block + 1) * g .blocksize ≤ length (now image)) × (i < perNode (shapeOf g kind)) ⌝ }
     requires { ⌜ first ≡ firstPointer (shapeOf g kind) ⌝ }
     ensures { λ r. ⌜ r ≡ (childAt (shapeOf g kind) (blockIn (g .blocksize) (now (image .entry)) block) 0 i) .block ⌝ }

@@ -10,7 +10,7 @@ ghost use Rattle.walks.specs.Walk.{visitOf, good, lookIn};
 ghost use Rattle.walks.specs.Shapes.{shapeOf};
 ghost use Rattle.walks.specs.WalkAnswer.{lookedOutcome};
 ghost use Rattle.walks.specs.Links.{leftsibOf, rightsibOf};
-ghost use Rattle.walks.specs.inner.WalkState.{stepOutcome, Beside, stepOf, onward, Fitting, Wrote};
+ghost use Rattle.walks.specs.OneVisit.{stepOutcome, Beside, stepOf, onward, Fitting, Wrote};
 use crate::by_level::LEVEL_STEP;
 use crate::look::Looked;
 use crate::look::look;
@@ -22,25 +22,25 @@ use blocks::kind::TreeKind;
 use codec::copy::copy;
 
 // The blocks read and the record bytes stored so far.
-pub(crate) struct Count {
-    pub(crate) visits: usize,
-    pub(crate) bytes: usize,
+pub struct Count {
+    pub visits: usize,
+    pub bytes: usize,
 }
 
 // The blocks that a block names before and after it on its level.
-pub(crate) struct Siblings {
-    pub(crate) left: u32,
-    pub(crate) right: u32,
+pub struct Siblings {
+    pub left: u32,
+    pub right: u32,
 }
 
 // A block that was read: the counts after it, and its siblings.
-pub(crate) struct Seen {
-    pub(crate) count: Count,
-    pub(crate) siblings: Siblings,
+pub struct Seen {
+    pub count: Count,
+    pub siblings: Siblings,
 }
 
 // What a visit comes to: the block read, or the refusal that ends the walk.
-pub(crate) enum Step {
+pub enum Step {
     Next(Seen),
     Stop(WalkRefusal),
 }
@@ -103,7 +103,7 @@ fn stop(answer: Looked, c: Count) -> Step
 }
 
 // Reads a block that is due: 14, then 3 to 10, then 15. A node has no records: it hands an empty part of the image on.
-pub(crate) fn visit(
+pub fn visit(
     g: Geometry,
     kind: TreeKind,
     image: &[u8],

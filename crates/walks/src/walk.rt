@@ -1,31 +1,28 @@
 // The walk of a tree over lent memory, left to right and depth first (`EveryWalk` of specs/Forest.antt), and whether its levels are linked.
 ghost use mathlib.Core.Path.{_≡_};
 ghost use mathlib.Core.Bool.{false};
-ghost use Prim.Native.Nat.{_/_, _≤_, _<_, _^_};
-ghost use lib.ListN.{length, take};
-ghost use Rattle.codec.specs.Bytes.{withBytes};
+ghost use Prim.Native.Nat.{_<_, _^_};
+ghost use lib.ListN.{length};
 ghost use Rattle.codec.specs.Question.{done};
 ghost use Rattle.blocks.specs.Geometry.{geometryOk};
 ghost use Rattle.blocks.specs.Tree.{recordLen};
-ghost use Rattle.walks.specs.Memory.{zeros};
-ghost use Rattle.walks.specs.Walk.{byLevel};
 ghost use Rattle.walks.specs.Shapes.{shapeOf};
-ghost use Rattle.walks.specs.declared.walk.Walked.the-variants.{Read, Refused};
+ghost use Rattle.walks.specs.declared.walk.Walked.the-variants.{Refused};
 ghost use Rattle.walks.specs.WalkCall.{walkIn, walkOf, lent, report};
 ghost use Rattle.walks.specs.WalkAnswer.{walkedReport, WalkIs};
 ghost use Rattle.walks.specs.Links.{saysLinked, LinkingIs};
 ghost use Rattle.walks.specs.First.{Begun};
-ghost use Rattle.walks.specs.inner.WalkState.{seenOf, left};
-use crate::by_level::order;
+ghost use Rattle.walks.specs.inner.WalkState.{left};
+use crate::closing::finish;
+use crate::closing::read_all;
+use crate::closing::wipe;
 use crate::first::First;
 use crate::first::ask_first;
 use crate::first::limit_of;
 use crate::links::NOTHING;
 use crate::links::all_linked;
 use crate::links::follow;
-use crate::memory::zero8;
 use crate::memory::zero32;
-use crate::memory::zero64;
 use crate::path::Next;
 use crate::path::advance;
 use crate::path::first_pointer;
@@ -66,18 +63,6 @@ fn refused(refusal: WalkRefusal, visits: usize) -> Linking
     Linking {
         walked: Walked::Refused { refusal, visits },
         linked: false,
-    }
-}
-
-// A walk that has read its last block.
-fn read_all(kind: TreeKind, c: Count) -> Walked
-    ensures { λ r. ⌜ r ≡ Read (c .visits) (c .bytes / recordLen kind) (c .bytes) ⌝ }
-{
-    let bytes = c.bytes;
-    Walked::Read {
-        visits: c.visits,
-        records: bytes / kind.record_len(),
-        bytes,
     }
 }
 
@@ -141,28 +126,6 @@ fn descend(
     }
 }
 
-// After a finished walk: the block list by level, and both scratches zero.
-fn finish(visits: usize, levels: u64, stack: &mut [u32], scratch: &mut [u64], blocks: &mut [u32])
-    requires { ⌜ (visits ≤ length (now scratch)) × (visits ≤ length (now blocks)) ⌝ }
-    ensures { λ _. ⌜ (now (blocks .exit) ≡ withBytes (now (blocks .entry)) 0 (byLevel levels (seenOf (take visits (now (scratch .entry))))))
-        × (now (stack .exit) ≡ zeros (now (stack .entry))) × (now (scratch .exit) ≡ zeros (now (scratch .entry))) ⌝ }
-{
-    order(scratch, visits, levels, blocks);
-    zero32(stack);
-    zero64(scratch);
-}
-
-// After a refused walk: zeros throughout.
-fn wipe(stack: &mut [u32], scratch: &mut [u64], blocks: &mut [u32], out: &mut [u8])
-    ensures { λ _. ⌜ (now (stack .exit) ≡ zeros (now (stack .entry))) × (now (scratch .exit) ≡ zeros (now (scratch .entry)))
-        × (now (blocks .exit) ≡ zeros (now (blocks .entry))) × (now (out .exit) ≡ zeros (now (out .entry))) ⌝ }
-{
-    zero32(stack);
-    zero64(scratch);
-    zero32(blocks);
-    zero8(out);
-}
-
 // The walk, once 1, 11 and 12 are asked.
 fn walk_tree(
     g: Geometry,
@@ -195,6 +158,7 @@ fn walk_tree(
         out,
         places,
     );
+    zero32(stack);
     let walked = end.walked;
     let Walked::Read {
         visits,
@@ -202,10 +166,10 @@ fn walk_tree(
         bytes: _,
     } = walked
     else {
-        wipe(stack, scratch, blocks, out);
+        wipe(scratch, blocks, out);
         return end;
     };
-    finish(visits, levels as u64, stack, scratch, blocks);
+    finish(visits, levels as u64, scratch, blocks);
     end
 }
 

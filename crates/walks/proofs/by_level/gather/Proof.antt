@@ -6,7 +6,8 @@ use Prim.Native.Nat.{ℕ, _+_, _-_, _<_, _≤_}
 use lib.ListN.{length, getD, take, length-append}
 use denote.Ref.{now}
 use Rattle.walks.specs.Walk.{atLevel}
-use Rattle.walks.specs.inner.WalkState.{levelIn, seenOf}
+use Rattle.walks.specs.OneVisit.{seenOf}
+use Rattle.walks.specs.inner.WalkState.{levelIn}
 use Rattle.codec.specs.Bytes.{withBytes}
 use Rattle.codec.proofs.Stores.{withBytes-none, withBytes-then}
 use Rattle.walks.proofs.LevelLaws.{levels-more, levels-mono}

@@ -7,7 +7,7 @@ use lib.ListN.{length, take, length-append}
 use lib.Seq.{length-take-le}
 use denote.Ref.{now}
 use Rattle.walks.specs.Walk.{atLevel, byLevel}
-use Rattle.walks.specs.inner.WalkState.{seenOf}
+use Rattle.walks.specs.OneVisit.{seenOf}
 use Rattle.codec.specs.Bytes.{withBytes}
 use Rattle.codec.proofs.Stores.{withBytes-none, withBytes-then}
 use Rattle.walks.proofs.LevelLaws.{by-level-length, by-level-more, seen-length}

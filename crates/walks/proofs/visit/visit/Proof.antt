@@ -14,7 +14,7 @@ use Rattle.walks.specs.Shapes.{shapeOf, headerIn}
 use Rattle.walks.specs.WalkAnswer.{lookedOutcome}
 use Rattle.walks.specs.Links.{leftsibOf, rightsibOf}
 use Rattle.walks.specs.declared.visit.Step.{Step}
-use Rattle.walks.specs.inner.WalkState.{Beside}
+use Rattle.walks.specs.OneVisit.{Beside}
 use Rattle.walks.proofs.LookLaws.{look-refused, look-done, header-good, part-long, under-leaf, under-node, header-body, leaf-inside}
 use Rattle.walks.proofs.PathLaws.{small}
 use Rattle.walks.proofs.VisitLaws.{leaf-part, beside-refused, visit-bad, visit-good}

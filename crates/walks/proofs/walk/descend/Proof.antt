@@ -20,8 +20,10 @@ use Rattle.walks.specs.WalkCall.{walkIn}
 use Rattle.walks.specs.WalkAnswer.{walkedReport}
 use Rattle.walks.specs.Links.{leftsibOf, rightsibOf}
 use Rattle.walks.specs.Path.{every, dueIn, pathOf, Opened, withPair, lowOf, Moved, Advanced}
-use Rattle.walks.specs.inner.WalkState.{stepOutcome, Beside, stepOf, Wrote, left}
-use Rattle.walks.proofs.WalkLaws.{restOf, refused-is, finished-is, Walking, walking-spent, walking-stop, walking-ended, walking-seen, walking-read, step-count, end-whole}
+use Rattle.walks.specs.OneVisit.{stepOutcome, Beside, stepOf, Wrote}
+use Rattle.walks.specs.Underway.{restOf, Walking}
+use Rattle.walks.specs.inner.WalkState.{left}
+use Rattle.walks.proofs.WalkLaws.{refused-is, finished-is, walking-spent, walking-stop, walking-ended, walking-seen, walking-read, step-count, end-whole}
 use Rattle.walks.proofs.PathLaws.{path-none-left, path-moved}
 use Rattle.walks.proofs.DescendLaws.{walking-begin, walking-turn, turn-visits, visits-whole, visits-none, opened-moved}
 use Rattle.walks.proofs.LinkLaws.{Chained, chained-start, chained-step, chained-end}

@@ -16,6 +16,9 @@ use Rattle.walks.proofs.walk.walk_tree.Tie as tie
 descend-requires : tie.Need-descend-requires
 descend-requires c κs = search needs
 
+zero32-requires : tie.Need-zero32-requires
+zero32-requires c κs = search needs
+
 enum-known-walked : tie.Need-enum-known-walked
 enum-known-walked c = search needs
 
@@ -39,21 +42,22 @@ same-length-4 c = search needs
 
 returns : tie.Need-returns
 returns c =
-    let f = c .before .before .before .before .before .before .before .before in
-    let e = f .before .before .before .before .before in
-    let d = e .before .before .before .before .before .before .before .before in
+    let f = c .before .before .before .before .before .before in
+    let e = f .before .before .before .before in
+    let z = e .before .before .before .before in
+    let d = z .before .before .before .before .before .before .before .before in
     let a = d .before .before .before .before .before .before .before .before .before .args in
     record {
       walks = call-refused (recordLen (a .kind)) (a .levels) (walkIn (shapeOf (a .g) (a .kind)) (now (a .image)) (a .root) (a .levels) (a .limit) (length (now (a .blocks))) (length (now (a .out)))) (now (a .stack)) (d .descend .last .1 .1 .1 .1 .1 .1 .0) _ (now (a .scratch)) (d .descend .last .1 .1 .1 .1 .1 .1 .1 .0) _ (now (a .blocks)) _ (now (a .out)) (d .descend .last .1 .1 .1 .1 .1 .1 .1 .1 .0)
-          (d .descend .kept .1 .1 .1 .1 .1 .1 .0) (d .descend .kept .1 .1 .1 .1 .1 .1 .1 .0) (f .wipe .ensures .0) (f .wipe .ensures .1)
-          (d .descend .result .walked) _ _ _ (e .enum-told .given .1) (d .descend .ensures .0) (d .descend .kept .1 .1 .1 .1 .1 .1 .1 .1 .0) (f .wipe .ensures .2) (f .wipe .ensures .3);
+          (d .descend .kept .1 .1 .1 .1 .1 .1 .0) (d .descend .kept .1 .1 .1 .1 .1 .1 .1 .0) (z .zero32 .ensures) (f .wipe .ensures .0)
+          (d .descend .result .walked) _ _ _ (e .enum-told .given .1) (d .descend .ensures .0) (d .descend .kept .1 .1 .1 .1 .1 .1 .1 .1 .0) (f .wipe .ensures .1) (f .wipe .ensures .2);
       says = d .descend .ensures .1 .1;
     }
 
 finish-requires : tie.Need-finish-requires
 finish-requires c κs =
-    let e = c .before .before .before .before in
-    let d = e .before .before .before .before .before .before .before .before in
+    let e = c .before .before .before in
+    let d = e .before .before .before .before .before .before .before .before .before .before .before .before in
     let s = d .before .before .before .before .before .before .before .before .before in
     let a = s .args in
     let w =
@@ -75,13 +79,14 @@ same-length-8 c = search needs
 
 returns-2 : tie.Need-returns-2
 returns-2 c =
-    let f = c .before .before .before .before .before .before in
-    let e = f .before .before .before .before .before in
-    let d = e .before .before .before .before .before .before .before .before in
+    let f = c .before .before .before .before in
+    let e = f .before .before .before .before in
+    let z = e .before .before .before .before in
+    let d = z .before .before .before .before .before .before .before .before in
     let a = d .before .before .before .before .before .before .before .before .before .args in
     record {
       walks = call-read (recordLen (a .kind)) (a .levels) (walkIn (shapeOf (a .g) (a .kind)) (now (a .image)) (a .root) (a .levels) (a .limit) (length (now (a .blocks))) (length (now (a .out)))) (now (a .stack)) (d .descend .last .1 .1 .1 .1 .1 .1 .0) _ (now (a .scratch)) (d .descend .last .1 .1 .1 .1 .1 .1 .1 .0) _ (now (a .blocks)) _ (now (a .out)) (d .descend .last .1 .1 .1 .1 .1 .1 .1 .1 .0)
-          (d .descend .kept .1 .1 .1 .1 .1 .1 .0) (d .descend .kept .1 .1 .1 .1 .1 .1 .1 .0) (f .finish .ensures .1) (f .finish .ensures .2)
+          (d .descend .kept .1 .1 .1 .1 .1 .1 .0) (d .descend .kept .1 .1 .1 .1 .1 .1 .1 .0) (z .zero32 .ensures) (f .finish .ensures .1)
           (d .descend .result .walked) _ _ _ (e .walked .given .1) (sym (ap walkedReport (e .walked .given .1)) ∙ d .descend .ensures .0)
           (subst (λ (x : Walked). left x (walkIn (shapeOf (a .g) (a .kind)) (now (a .image)) (a .root) (a .levels) (a .limit) (length (now (a .blocks))) (length (now (a .out)))) (d .descend .last .1 .1 .1 .1 .1 .1 .1 .0) (now (a .out)) (d .descend .last .1 .1 .1 .1 .1 .1 .1 .1 .0)) (e .walked .given .1) (d .descend .ensures .1 .0))
           (f .finish .ensures .0);
@@ -93,6 +98,7 @@ walk-tree-spec =
     tie.close
     (tie.spec
     descend-requires
+    zero32-requires
     enum-known-walked
     enum-told
     wipe-requires

@@ -2,8 +2,8 @@ use native.Mathlib.Omega.{arith}
 use mathlib.Core.Path.{refl}
 use Rattle.blocks.proofs.Laws.{bounded}
 use borrow.Author.Needs.{needs}
-use Rattle.walks.proofs.walk.read_all.Statement.{statement}
-use Rattle.walks.proofs.walk.read_all.Tie as tie
+use Rattle.walks.proofs.closing.read_all.Statement.{statement}
+use Rattle.walks.proofs.closing.read_all.Tie as tie
 
 record-len-requires : tie.Need-record-len-requires
 record-len-requires c κs = search needs
