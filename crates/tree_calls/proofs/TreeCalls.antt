@@ -1,4 +1,4 @@
--- What a plan, a walk and the link check say, from what they come to.
+-- What a plan, a walk, the link check and the textbook walk say, from what they come to.
 -- Assumes nothing.
 use Prim.Native.Nat.{ℕ, _<_}
 use native.Mathlib.Omega.{arith}
@@ -22,9 +22,10 @@ use Rattle.walks.specs.Walk.{Trace}
 use Rattle.walks.specs.WalkCall.{Report, walkOf, lent}
 use Rattle.walks.specs.WalkAnswer.{WalkIs, walkedReport}
 use Rattle.walks.specs.Links.{LinkingIs}
+use Rattle.book.specs.Textbook.{lists, textbookOf, TextbookIs}
 use Rattle.interface.specs.Interface.{numberOf, Says}
 use Rattle.tree_calls.specs.TreeCalls.{planFigures, placesAfter, PlanSays}
-use Rattle.tree_calls.specs.WalkFigures.{Reports, Walks, WalkSays, yesFigure, LinkingSays}
+use Rattle.tree_calls.specs.WalkFigures.{Reports, Walks, WalkSays, yesFigure, LinkingSays, TextbookSays}
 use Rattle.interface.proofs.Saying.{says}
 use Rattle.tree_calls.proofs.Reporting.{reports}
 
@@ -75,7 +76,7 @@ walk-says is h s =
       leaves = record { stack-is = is .stack-is; scratch-is = is .scratch-is; blocks-are = is .blocks-are; records-are = is .records-are };
     }
 
--- the call of a walk, and of the link check
+-- the call of a walk, of the link check, and of the textbook walk
 module _ {g g′ : Geometry} {k k′ : TreeKind} (image : List ℕ) (root levels : ℕ) {a r : ℕ} {figures said stack stack′ scratch scratch′ blocks blocks′ out out′ : List ℕ}
     (e : g ≡ g′) (f : k ≡ k′) where
   pub walk-said : {w : Walked}
@@ -89,3 +90,9 @@ module _ {g g′ : Geometry} {k k′ : TreeKind} (image : List ℕ) (root levels
       → fourth ≡ yesFigure (w .linked) → Reports fourth (walkedReport (w .walked)) a figures → (r ≡ a) × (said ≡ figures)
       → LinkingSays (g′ .blocksize) image (recordLen k′) levels (walkOf g′ k′ image root levels (lent stack scratch blocks out)) r said stack stack′ scratch scratch′ blocks blocks′ out out′
   linking-said is q h s = rw (← e, ← f, ← is .says, ← q) (walk-says (is .walks) h s)
+
+pub textbook-said : {g g′ : Geometry} {k k′ : TreeKind} (image : List ℕ) (root levels : ℕ) {a r : ℕ} {figures said scratch scratch′ blocks blocks′ out out′ : List ℕ} → g ≡ g′ → k ≡ k′ → {w : Walked}
+    → TextbookIs (recordLen k) levels (textbookOf g k image root levels (lists scratch blocks out)) w scratch scratch′ blocks blocks′ out out′
+    → Reports 0 (walkedReport w) a figures → (r ≡ a) × (said ≡ figures)
+    → TextbookSays (recordLen k′) levels (textbookOf g′ k′ image root levels (lists scratch blocks out)) r said scratch scratch′ blocks blocks′ out out′
+textbook-said image root levels e f is h s = rw (← e, ← f) (walk-says is h s)

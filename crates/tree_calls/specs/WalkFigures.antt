@@ -1,4 +1,4 @@
--- What a walk and the link check say and leave. The third figure is a count of visits also where they are refused.
+-- What a walk, the link check and the textbook walk say and leave. The third figure is a count of visits also where they are refused.
 -- Assumes nothing.
 use Prim.Native.Nat.{ℕ}
 use mathlib.Core.Path.{_≡_}
@@ -50,3 +50,7 @@ yesFigure so = cond so 1 0
 abbrev pub LinkingSays : (size : ℕ) (image : List ℕ) (w levels : ℕ) → Outcome Trace → ℕ
     → (said stack stack′ scratch scratch′ blocks blocks′ out out′ : List ℕ) → Type 0
 LinkingSays size image w levels o = Walks (yesFigure (saysLinked size image levels o)) w levels o
+
+-- the textbook walk's is the walk's, with no stack
+abbrev pub TextbookSays : (w levels : ℕ) → Outcome Trace → ℕ → (said scratch scratch′ blocks blocks′ out out′ : List ℕ) → Type 0
+TextbookSays w levels o r said = WalkSays w levels o r said [] []

@@ -4,10 +4,11 @@ ghost use Rattle.blocks.specs.Tree.{recordLen};
 ghost use Rattle.trees.specs.BuildCall.{buildOutcome};
 ghost use Rattle.trees.specs.PlanAnswer.{planOutcome};
 ghost use Rattle.walks.specs.WalkCall.{walkOf, lent};
+ghost use Rattle.book.specs.Textbook.{textbookOf, lists};
 ghost use Rattle.lookup.specs.Lookup.{lookupOf};
 ghost use Rattle.interface.specs.Interface.{geometryOf, kindOf};
 ghost use Rattle.tree_calls.specs.TreeCalls.{PlanSays, BuildSays};
-ghost use Rattle.tree_calls.specs.WalkFigures.{WalkSays, LinkingSays};
+ghost use Rattle.tree_calls.specs.WalkFigures.{WalkSays, LinkingSays, TextbookSays};
 ghost use Rattle.tree_calls.specs.LookupFigures.{LookupSays};
 use crate::answers::built_answer;
 use crate::answers::looked_up_answer;
@@ -15,6 +16,7 @@ use crate::answers::planned_answer;
 use crate::answers::walked_answer;
 use crate::answers::yes_figure;
 use blocks::geometry::AgBlock;
+use book::textbook::walk_textbook;
 use interface::answer::say;
 use interface::given::geometry;
 use interface::given::tree_kind;
@@ -167,6 +169,46 @@ pub extern "C" fn kf_walk_linked(
     let walked = linking.walked;
     let linked = linking.linked;
     say(walked_answer(walked, yes_figure(linked)), said)
+}
+
+// The same walk as the course book has it: one routine reads a block, another its children from left to right. It is lent no stack, so 12 asks for the level
+// scratch alone; it says and leaves what `kf_walk` does on a stack of 18 places or more.
+#[no_mangle]
+pub extern "C" fn kf_walk_textbook(
+    version: u16,
+    blocksize: u32,
+    agblocks: u32,
+    agno: u32,
+    uuid_high: u64,
+    uuid_low: u64,
+    kind: u32,
+    image: &[u8],
+    root: u32,
+    levels: u32,
+    scratch: &mut [u64],
+    blocks: &mut [u32],
+    records: &mut [u8],
+    said: &mut [u64; 4],
+) -> u32
+    ensures { λ r. ⌜ TextbookSays (recordLen (kindOf kind)) levels
+        (textbookOf (geometryOf version blocksize agblocks agno «uuid_high» «uuid_low») (kindOf kind) (now (image .entry)) root levels
+        (lists (now (scratch .entry)) (now (blocks .entry)) (now (records .entry))))
+        r (now (said .exit)) (now (scratch .entry)) (now (scratch .exit)) (now (blocks .entry)) (now (blocks .exit))
+        (now (records .entry)) (now (records .exit)) ⌝ }
+{
+    let g = geometry(version, blocksize, agblocks, agno, uuid_high, uuid_low);
+    let tree = tree_kind(kind);
+    let walked = walk_textbook(
+        g,
+        tree,
+        image,
+        AgBlock(root),
+        levels,
+        scratch,
+        blocks,
+        records,
+    );
+    say(walked_answer(walked, 0), said)
 }
 
 // How many records of a reverse map lie over each of the numbers `asked`, which ascend, in one descent from its root that skips each child between
