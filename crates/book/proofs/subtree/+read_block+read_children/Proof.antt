@@ -114,7 +114,7 @@ module _ (t : ℕ) (v : Read-block t) (n : Count) (told : stepOutcome (v .visit 
       (v .visit .kept .1 .1 .1 .1 .1 .0) (v .visit .kept .1 .1 .1 .1 .1 .1 .0) refl
 
 read-block-returns : (t : ℕ) → read-block-lts.Need-returns (block-knows t) (read-block-at t) read-block.Post
-read-block-returns t c = (λ total o later k. walking-spent k _ later refl (c .if1 .taken), tt)
+read-block-returns t c = (λ total o later k. walking-spent k _ later refl (omega (arith, c .if1 .taken)), tt)
 
 read-block-visit-requires : (t : ℕ) → read-block-lts.Need-visit-requires (block-knows t) (read-block-at t) read-block.Post
 read-block-visit-requires t c κs = search needs
@@ -227,23 +227,6 @@ this t d = all t d - d .before .before .before .before .before .loop .left
 abbrev due : (t : ℕ) → Read-child t → ℕ → List Visit
 due t d i = let a = given t d .args in dueIn every (shapeOf (a .g) (a .kind)) (now (a .image)) (a .level) (a .node) i
 
--- where the walk stands after it
-stands : (t : ℕ) (d : Read-child t) (total : Trace) (o : List ℕ) (later : List Visit)
-    → (let a = given t d .args in Walking (lookIn (shapeOf (a .g) (a .kind)) (now (a .image))) (a .limits .visits) (a .limits .blocks) (length (now (a .out))) (recordLen (a .kind)) total o (now (a .scratch)) (now (a .out)) (a .c .visits) (a .c .bytes) (due t d 0 ++ later))
-    → (let a = given t d .args in let l = d .before .before .before .before .before .loop in
-    Reached (lookIn (shapeOf (a .g) (a .kind)) (now (a .image))) (a .limits) (length (l .out)) (recordLen (a .kind)) total o (d .read-block .last .1 .1 .1 .1 .1 .1 .0) (d .read-block .last .1 .1 .1 .1 .1 .1 .1 .0) (d .read-block .result) (due t d (this t d + 1) ++ later))
-stands t d total o later k =
-    let s = given t d in
-    let a = s .args in
-    let l = d .before .before .before .before .before .loop in
-    let look = lookIn (shapeOf (a .g) (a .kind)) (now (a .image)) in
-    let e = child-next (shapeOf (a .g) (a .kind)) (now (a .image)) (a .node) (a .level) (this t d) (d .before .before .before .child .result)
-    (omega (arith, d .before .before .before .before .before .before .before .fan .ensures, l .inv .0, d .before .before .before .before .loop-test .taken)) (d .before .before .before .child .ensures) in
-    d .read-block .ensures .0 total o (due t d (this t d + 1) ++ later)
-    (subst (λ (x : ℕ). Walking look (a .limits .visits) (a .limits .blocks) x (recordLen (a .kind)) total o (l .scratch) (l .out) (l .count .visits) (l .count .bytes) (visitOf (d .before .before .before .child .result) (a .level - 1) ∷ (due t d (this t d + 1) ++ later))) (sym (l .inv .3))
-    (subst (λ (x : List Visit). Walking look (a .limits .visits) (a .limits .blocks) (length (now (a .out))) (recordLen (a .kind)) total o (l .scratch) (l .out) (l .count .visits) (l .count .bytes) (x ++ later)) e
-    (l .inv .4 total o later k)))
-
 read-children-fan-requires : (t : ℕ) → read-children-lts.Need-fan-requires (children-knows t) (read-children-at t) read-children.Post read-children-Inv-loop read-children-μ-loop
 read-children-fan-requires t c κs = search needs
 
@@ -293,6 +276,23 @@ read-children-same-length t c = let d = c .before .before .before .before .befor
 
 read-children-same-length-2 : (t : ℕ) → read-children-lts.Need-same-length-2 (children-knows t) (read-children-at t) read-children.Post read-children-Inv-loop read-children-μ-loop
 read-children-same-length-2 t c = let d = c .before .before .before .before .before .before in d .read-block .kept .1 .1 .1 .1 .1 .1 .1 .0 ∙ d .before .before .before .before .before .loop .inv .3
+
+-- where the walk stands after it
+stands : (t : ℕ) (d : Read-child t) (total : Trace) (o : List ℕ) (later : List Visit)
+    → (let a = given t d .args in Walking (lookIn (shapeOf (a .g) (a .kind)) (now (a .image))) (a .limits .visits) (a .limits .blocks) (length (now (a .out))) (recordLen (a .kind)) total o (now (a .scratch)) (now (a .out)) (a .c .visits) (a .c .bytes) (due t d 0 ++ later))
+    → (let a = given t d .args in let l = d .before .before .before .before .before .loop in
+    Reached (lookIn (shapeOf (a .g) (a .kind)) (now (a .image))) (a .limits) (length (l .out)) (recordLen (a .kind)) total o (d .read-block .last .1 .1 .1 .1 .1 .1 .0) (d .read-block .last .1 .1 .1 .1 .1 .1 .1 .0) (d .read-block .result) (due t d (this t d + 1) ++ later))
+stands t d total o later k =
+    let s = given t d in
+    let a = s .args in
+    let l = d .before .before .before .before .before .loop in
+    let look = lookIn (shapeOf (a .g) (a .kind)) (now (a .image)) in
+    let e = child-next (shapeOf (a .g) (a .kind)) (now (a .image)) (a .node) (a .level) (this t d) (d .before .before .before .child .result)
+    (omega (arith, d .before .before .before .before .before .before .before .fan .ensures, l .inv .0, d .before .before .before .before .loop-test .taken)) (d .before .before .before .child .ensures) in
+    d .read-block .ensures .0 total o (due t d (this t d + 1) ++ later)
+    (subst (λ (x : ℕ). Walking look (a .limits .visits) (a .limits .blocks) x (recordLen (a .kind)) total o (l .scratch) (l .out) (l .count .visits) (l .count .bytes) (visitOf (d .before .before .before .child .result) (a .level - 1) ∷ (due t d (this t d + 1) ++ later))) (sym (l .inv .3))
+    (subst (λ (x : List Visit). Walking look (a .limits .visits) (a .limits .blocks) (length (now (a .out))) (recordLen (a .kind)) total o (l .scratch) (l .out) (l .count .visits) (l .count .bytes) (x ++ later)) e
+    (l .inv .4 total o later k)))
 
 read-children-returns : (t : ℕ) → read-children-lts.Need-returns (children-knows t) (read-children-at t) read-children.Post read-children-Inv-loop read-children-μ-loop
 read-children-returns t c =
