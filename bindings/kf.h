@@ -22,8 +22,9 @@
  *     other. Slices that are only read may overlap.
  *   - An empty slice is a length of 0 with a pointer that is neither null nor misaligned. It need not point to an element: the address of
  *     any object of the element's type will do.
- *   - The stack has room for the call: 8 KiB are enough, the red zone of System V, which calls use, included. (Read off the archives, not
- *     proved. No call calls itself.)
+ *   - The stack has room for the call: 8 KiB are enough, for kf_walk_textbook 12 KiB, the red zone of System V, which calls use, included. (Read
+ *     off the archives and measured, not proved. No call calls itself, but the two routines of kf_walk_textbook call each other, as deep as the tree
+ *     has levels.)
  * Nothing is asked of numbers, of bytes that are read, nor of what lent memory holds before the call.
  *
  * What is proved. Each function of the two archives, on every input, where the duties are kept: it returns, reads and writes nothing but what
@@ -63,7 +64,8 @@ extern "C" {
 #define KF_LEVELS 9u
 #define KF_FIGURES 4u
 
-/* The places of the stack that a walk or a lookup is lent, whatever the levels, the kind and the block size. */
+/* The places of the stack that kf_walk, kf_walk_linked and kf_lookup are lent, whatever the levels, the kind and the block size. The textbook walk
+ * is lent none. */
 #define KF_STACK_PLACES 18u
 
 /* What a block names as its sibling where there is none: at both ends of a level. */
@@ -185,8 +187,19 @@ uint32_t kf_walk_linked(KF_GEOMETRY, uint32_t kind, const uint8_t *image, size_t
                         uint32_t *stack, size_t stack_len, uint64_t *scratch, size_t scratch_len,
                         uint32_t *blocks, size_t blocks_len, uint8_t *records, size_t records_len, uint64_t said[KF_FIGURES]);
 
+/* The walk as textbooks have it, for a caller who has no stack to lend: one routine reads a block, another its children from left to right, each
+ * calling the other, the level falling. It answers, says and leaves what kf_walk does on the same image with a stack of KF_STACK_PLACES places or
+ * more. The scratch takes as many places as `blocks`, and 12 asks for nothing else (1, 11, 12; then at each block 13, 14, 3 to 10, 15). A refusal by
+ * 1, 11 or 12 touches none of the three; any other leaves all three zero. A finished walk leaves the scratch zero, all that was lent of it, and the
+ * lists past the result as they were. What the machine's stack has to have room for goes by the levels alone, which are nine at most: the children
+ * of a block are read one after another by the one call that has them.
+ * said: visits, records, bytes of records, 0; refused: expected, found, visits, 0. */
+uint32_t kf_walk_textbook(KF_GEOMETRY, uint32_t kind, const uint8_t *image, size_t image_len, uint32_t root, uint32_t levels,
+                          uint64_t *scratch, size_t scratch_len,
+                          uint32_t *blocks, size_t blocks_len, uint8_t *records, size_t records_len, uint64_t said[KF_FIGURES]);
+
 /* How many records of the reverse map lie over each of the block numbers `asked`, in one descent from the root: `answers[i]` is that of
- * `asked[i]`. The image and the stack are as for a walk; there is no scratch (1, 11, 12, 29; then at each block 13, 14, 3 to
+ * `asked[i]`. The image and the stack are as for kf_walk; there is no scratch (1, 11, 12, 29; then at each block 13, 14, 3 to
  * 10). In a node a child is skipped where none of all the numbers lies from its low key's start to its high key's start, both included;
  * the root is visited always, also with no number asked. An answer counts the records of the leaves visited by their bytes as they are: start
  * <= number < start + count. Where kf_walk reads the tree, its records are accepted (19, 20) and its keys are those of the records under them,

@@ -162,7 +162,7 @@ static void store_and_read(const struct list *map)
 {
     uint64_t said[KF_FIGURES], levels[KF_LEVELS], answers[3];
     const uint32_t numbers[1] = {5}, asked[3] = {3, 4, 40};
-    struct list built, image, records;
+    struct list built, image, records, again;
     uint32_t stack[KF_STACK_PLACES], *blocks;
     uint64_t *scratch;
     size_t i;
@@ -200,6 +200,14 @@ static void store_and_read(const struct list *map)
         printf("  record: %lu blocks from %lu\n", (unsigned long)be32(record + 4), (unsigned long)be32(record));
     }
 
+    /* The same with no stack lent. */
+    again = lend(BLOCKSIZE);
+    expect("walk_textbook",
+           kf_walk_textbook(GEOMETRY, KF_KIND_RMAP, image.bytes, image.len, numbers[0], 1, scratch, 1, blocks, 1, again.bytes, again.len, said),
+           KF_DONE);
+    must(said[0] == 1 && blocks[0] == numbers[0], "it met the one block too");
+    must(said[2] == map->len && memcmp(again.bytes, records.bytes, map->len) == 0, "it gave the same records");
+
     /* How many records lie over each of some blocks, which have to ascend. */
     expect("lookup",
            kf_lookup(GEOMETRY, image.bytes, image.len, numbers[0], 1, asked, 3, stack, KF_STACK_PLACES, answers, 3, said),
@@ -211,6 +219,7 @@ static void store_and_read(const struct list *map)
     free(built.bytes);
     free(image.bytes);
     free(records.bytes);
+    free(again.bytes);
     free(scratch);
     free(blocks);
 }

@@ -1,7 +1,7 @@
-//! `walk_tree CASE`: walks the reverse map of a case file and prints what the
-//! tree is and its first records.
+//! `walk_tree CASE`: walks the reverse map of a case file, on a stack and as
+//! textbooks have it, and prints what the tree is and its first records.
 //!
-//! The walk is the proved library's; what is printed is this program's.
+//! Both walks are the proved library's; what is printed is this program's.
 
 use kf::{rmaps, Kind, Tree};
 use std::error::Error;
@@ -19,6 +19,10 @@ fn run(args: &[String], out: &mut dyn Write) -> Result<(), Box<dyn Error>> {
     let case = Case::read(&args[0])?;
     let root = case.root(Kind::Rmap)?;
     let tree = Tree::walk(&case.geometry, Kind::Rmap, &case.image, root)?;
+    let lists = Tree::walk_textbook(&case.geometry, Kind::Rmap, &case.image, root)?;
+    if (&lists.blocks, &lists.records) != (&tree.blocks, &tree.records) {
+        return Err("the textbook walk gives other lists".into());
+    }
 
     let records = rmaps(&tree.records);
     let linked = if tree.linked { "linked" } else { "not linked" };
@@ -26,6 +30,7 @@ fn run(args: &[String], out: &mut dyn Write) -> Result<(), Box<dyn Error>> {
     writeln!(out, "blocks {}", tree.blocks.len())?;
     writeln!(out, "records {}", records.len())?;
     writeln!(out, "{linked}")?;
+    writeln!(out, "the textbook walk gives the same")?;
 
     for r in records.take(10) {
         let (start, last) = (r.startblock, r.end().saturating_sub(1));
@@ -69,6 +74,7 @@ mod tests {
                 "blocks 4",
                 "records 90",
                 "linked",
+                "the textbook walk gives the same",
                 "blocks 0 to 1, owner -3",
                 "blocks 2 to 3, owner -5",
                 "blocks 4 to 5, owner -6",
@@ -87,8 +93,14 @@ mod tests {
     fn a_real_tree_of_more_blocks() {
         let lines = printed("v5-2048.case");
         assert_eq!(
-            lines[..4],
-            ["levels 2", "blocks 25", "records 1630", "linked"]
+            lines[..5],
+            [
+                "levels 2",
+                "blocks 25",
+                "records 1630",
+                "linked",
+                "the textbook walk gives the same",
+            ]
         );
     }
 

@@ -7,7 +7,7 @@
 //! checked by tests.
 
 use crate::geometry::{Geometry, Kind};
-use crate::lent::{self, Lent, NewLists, Plan, STACK_PLACES};
+use crate::lent::{self, Lent, NewLists, Plan, WalkLists, Walked, STACK_PLACES};
 use crate::question::{Question, Refusal, WalkRefusal};
 use crate::records::{
     free_extents, refcounts, rmaps, FreeExtent, Records, Refcount, Rmap, FREE_EXTENT, REFCOUNT,
@@ -68,6 +68,16 @@ pub struct Tree {
     pub linked: bool,
 }
 
+/// The lists of a tree that a textbook walk read.
+#[derive(Debug, Clone, PartialEq, Eq)]
+#[non_exhaustive]
+pub struct TreeLists {
+    /// Its blocks by level, leaves first.
+    pub blocks: Vec<u32>,
+    /// The bytes of its records.
+    pub records: Vec<u8>,
+}
+
 /// What a lookup found.
 #[derive(Debug, Clone, PartialEq, Eq)]
 #[non_exhaustive]
@@ -109,23 +119,52 @@ impl Tree {
     /// assert_eq!((refused.refusal.number, refused.visits), (15, 4));
     /// ```
     pub fn walk(g: &Geometry, kind: Kind, image: &[u8], root: Root) -> Result<Tree, WalkRefusal> {
-        // Any other block size is refused before memory is asked about.
-        if !g.has_blocksize() {
-            return Tree::walk_in(0, g, kind, image, root);
-        }
-        let size = g.blocksize as usize;
-        let limit = root.blocks.min(g.agblocks.max(64)) as usize;
-        let most = limit.min(image.len() / size);
-        let mut room = most.min(FIRST_ROOM / size);
-        loop {
-            match Tree::walk_in(room, g, kind, image, root) {
-                // Only 15 goes by the room: every other refusal is the same with more.
-                Err(full) if full.refusal.question() == Some(Question::Full) && room < most => {
-                    room = most.min(2 * room);
-                }
-                walked => return walked,
-            }
-        }
+        let (lists, linked) = TreeLists::walk(g, image, root, |on| {
+            let mut stack = [0; STACK_PLACES];
+            let lent = Lent::new(&mut stack, on.scratch, on.blocks, on.records);
+            lent::walk_linked(g, kind, image, root.root, root.levels, lent)
+        })?;
+        Ok(Tree {
+            blocks: lists.blocks,
+            records: lists.records,
+            linked,
+        })
+    }
+
+    /// Reads a tree from its root, as [`walk_textbook`](crate::walk_textbook)
+    /// does, with the room that [`Tree::walk`] has, and never answers 12: the same
+    /// lists or the same refusal. It does not say whether the tree is linked.
+    ///
+    /// ```
+    /// use kf::{build, Geometry, Kind, Rmap, Root, Tree};
+    /// let g = Geometry::new(5, 512, 9, 0, [7; 16]);
+    /// let list: Vec<u8> = (0..50)
+    ///     .flat_map(|i| Rmap { startblock: 8 * i, blockcount: 2, owner: 7, offset: 0 }.to_bytes())
+    ///     .collect();
+    /// let mut image = [0; 4 * 512];
+    /// build(&g, Kind::Rmap, &list, &[0, 1, 2, 3], &mut image).unwrap();
+    /// let root = Root::new(3, 2, 4);
+    /// let lists = Tree::walk_textbook(&g, Kind::Rmap, &image, root).unwrap();
+    /// assert_eq!((&lists.blocks[..], &lists.records), (&[0, 1, 2, 3][..], &list));
+    /// let tree = Tree::walk(&g, Kind::Rmap, &image, root).unwrap();
+    /// assert_eq!((tree.blocks, tree.records), (lists.blocks, lists.records));
+    /// // A damaged leaf is refused by both alike.
+    /// image[512] ^= 1;
+    /// let refused = Tree::walk_textbook(&g, Kind::Rmap, &image, root).unwrap_err();
+    /// assert_eq!((refused.refusal.number, refused.visits), (4, 3));
+    /// assert_eq!(Tree::walk(&g, Kind::Rmap, &image, root), Err(refused));
+    /// ```
+    pub fn walk_textbook(
+        g: &Geometry,
+        kind: Kind,
+        image: &[u8],
+        root: Root,
+    ) -> Result<TreeLists, WalkRefusal> {
+        let (lists, ()) = TreeLists::walk(g, image, root, |on| {
+            lent::walk_textbook(g, kind, image, root.root, root.levels, on)
+                .map(|walked| (walked, ()))
+        })?;
+        Ok(lists)
     }
 
     /// Counts the records of the reverse map over each of the block numbers
@@ -230,21 +269,46 @@ impl Tree {
         out.truncate(built.bytes);
         Ok(out)
     }
+}
 
-    /// `walk` with room for so many blocks, each of records alone.
-    fn walk_in(
-        room: usize,
+impl TreeLists {
+    /// The lists of a walk, and what it says besides. `walk` is made on lists that
+    /// it is lent, again with longer ones where these are too short.
+    fn walk<T>(
         g: &Geometry,
-        kind: Kind,
         image: &[u8],
         root: Root,
-    ) -> Result<Tree, WalkRefusal> {
-        let mut stack = [0; STACK_PLACES];
+        walk: impl Fn(WalkLists<'_>) -> Result<(Walked, T), WalkRefusal>,
+    ) -> Result<(TreeLists, T), WalkRefusal> {
+        // Any other block size is refused before memory is asked about.
+        if !g.has_blocksize() {
+            return TreeLists::walk_in(0, 0, &walk);
+        }
+        let size = g.blocksize as usize;
+        let limit = root.blocks.min(g.agblocks.max(64)) as usize;
+        let most = limit.min(image.len() / size);
+        let mut room = most.min(FIRST_ROOM / size);
+        loop {
+            match TreeLists::walk_in(room, size, &walk) {
+                // Only 15 goes by the room: every other refusal is the same with more.
+                Err(full) if full.refusal.question() == Some(Question::Full) && room < most => {
+                    room = most.min(2 * room);
+                }
+                walked => return walked,
+            }
+        }
+    }
+
+    /// The same with room for so many blocks, each of records alone.
+    fn walk_in<T>(
+        room: usize,
+        size: usize,
+        walk: impl Fn(WalkLists<'_>) -> Result<(Walked, T), WalkRefusal>,
+    ) -> Result<(TreeLists, T), WalkRefusal> {
         let (mut scratch, mut blocks) = (vec![0; room], vec![0; room]);
         // No longer than the image, so the product does not overflow.
-        let mut records = vec![0; room * g.blocksize as usize];
-        let lent = Lent::new(&mut stack, &mut scratch, &mut blocks, &mut records);
-        let (walked, linked) = lent::walk_linked(g, kind, image, root.root, root.levels, lent)?;
+        let mut records = vec![0; room * size];
+        let (walked, said) = walk(WalkLists::new(&mut scratch, &mut blocks, &mut records))?;
         blocks.truncate(walked.visits);
         records.truncate(walked.bytes);
         // Most of the room was for blocks that are not there: it is given back.
@@ -252,11 +316,7 @@ impl Tree {
             blocks.shrink_to_fit();
             records.shrink_to_fit();
         }
-        Ok(Tree {
-            blocks,
-            records,
-            linked,
-        })
+        Ok((TreeLists { blocks, records }, said))
     }
 }
 

@@ -9,6 +9,6 @@ pub use lists::{
     release, remove, same_extents, take_held, LetGone, NewLists, Released, TakenHeld,
 };
 pub use trees::{
-    build, check_block, crc32c, crc32c_singly, lookup, plan, walk, walk_linked, Built, Header,
-    Lent, Plan, Walked, NO_SIBLING, STACK_PLACES,
+    build, check_block, crc32c, crc32c_singly, lookup, plan, walk, walk_linked, walk_textbook,
+    Built, Header, Lent, Plan, WalkLists, Walked, NO_SIBLING, STACK_PLACES,
 };

@@ -98,6 +98,7 @@
 //! | over vectors | on lent memory |
 //! |---|---|
 //! | [`Group::walk`], [`FreeSpace::walk`], [`Tree::walk`] | [`walk`], [`walk_linked`] |
+//! | [`Tree::walk_textbook`] | [`walk_textbook`] |
 //! | [`Tree::lookup`] | [`lookup`] |
 //! | [`Tree::plan`], [`Tree::build`] | [`plan`], [`build`] |
 //! | [`Group::take`] | [`insert`] |
@@ -113,9 +114,9 @@
 //! library's questions failed; all questions before it held. [`Question`]
 //! has all numbers with their texts; `docs/QUESTIONS.md` of the repository has
 //! each in full, the order in which each call asks, and the words used here. A
-//! refused call on lent memory writes nothing, but a [`walk`], a [`walk_linked`]
-//! or a [`lookup`] that had begun, which leaves zeros. Past a result nothing is
-//! written.
+//! refused call on lent memory writes nothing, but a [`walk`], a [`walk_linked`],
+//! a [`walk_textbook`] or a [`lookup`] that had begun, which leaves zeros. Past a
+//! result nothing is written.
 //!
 //! No call keeps anything, so calls on memory of their own may run at the same
 //! time.
@@ -167,12 +168,12 @@ mod records;
 
 pub use free_space::FreeSpace;
 pub use geometry::{Geometry, Kind};
-pub use group::{Group, LookedUp, Root, Tree};
+pub use group::{Group, LookedUp, Root, Tree, TreeLists};
 pub use lent::{
     build, check_block, check_by_block, check_by_size, check_refcounts, check_rmaps, crc32c,
     crc32c_singly, insert, insert_shared, let_go, lookup, plan, release, remove, same_extents,
-    take_held, walk, walk_linked, Built, Header, Lent, LetGone, NewLists, Plan, Released,
-    TakenHeld, Walked, NO_SIBLING, STACK_PLACES,
+    take_held, walk, walk_linked, walk_textbook, Built, Header, Lent, LetGone, NewLists, Plan,
+    Released, TakenHeld, WalkLists, Walked, NO_SIBLING, STACK_PLACES,
 };
 pub use question::{Question, Refusal, Values, WalkRefusal};
 pub use records::{

@@ -29,8 +29,9 @@
 //! - An empty slice is a length of 0 with a pointer that is neither null nor
 //!   misaligned, as that of an empty Rust slice is; it need not point to an
 //!   element.
-//! - The stack has room for the call: 8 KiB are enough, the red zone of System
-//!   V, which calls use, included. (Read off the archives, not proved.)
+//! - The stack has room for the call: 8 KiB are enough, for [`kf_walk_textbook`]
+//!   12 KiB, the red zone of System V, which calls use, included. (Read off the
+//!   archives and measured, not proved.)
 //!
 //! # What is proved
 //!
@@ -228,6 +229,34 @@ extern "C" {
         levels: u32,
         stack: *mut u32,
         stack_len: usize,
+        scratch: *mut u64,
+        scratch_len: usize,
+        blocks: *mut u32,
+        blocks_len: usize,
+        records: *mut u8,
+        records_len: usize,
+        said: *mut [u64; 4],
+    ) -> u32;
+
+    /// The walk of [`kf_walk`] by two routines that call each other, without a
+    /// stack that is lent.
+    ///
+    /// # Safety
+    ///
+    /// The [duties of a caller](self#duties-of-a-caller).
+    /// Reads `image`; writes `scratch`, `blocks`, `records` and `said`.
+    pub fn kf_walk_textbook(
+        version: u16,
+        blocksize: u32,
+        agblocks: u32,
+        agno: u32,
+        uuid_high: u64,
+        uuid_low: u64,
+        kind: u32,
+        image: *const u8,
+        image_len: usize,
+        root: u32,
+        levels: u32,
         scratch: *mut u64,
         scratch_len: usize,
         blocks: *mut u32,

@@ -27,6 +27,7 @@ check_block of another number: 8
   expected address 6, found 5
 walk_linked: 0
   record: 4 blocks from 0
+walk_textbook: 0
 lookup: 0
   records over block 3: 1
   records over block 4: 0

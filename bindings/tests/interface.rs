@@ -897,7 +897,7 @@ fn two_parameters_exchanged_are_found() {
         "uint32_t agblocks, uint32_t agno",
         "uint32_t agno, uint32_t agblocks",
     );
-    assert_eq!(found.len(), 2 * 6);
+    assert_eq!(found.len(), 2 * 7);
 }
 
 #[test]

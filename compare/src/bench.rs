@@ -431,10 +431,10 @@ fn linked() {
     println!("|---|---:|---:|---:|");
     for (n, size) in [(1_000_000, 4096), (2_000_000, 4096), (1_000_000, 512)] {
         let s = tree_image(n, size);
-        let mut lent = Walk::BOTH.map(|_| Lent::of(&s));
+        let mut lent = Walk::ON_STACK.map(|_| Lent::of(&s));
         let mut least = [Duration::MAX; 2];
         for _ in 0..TIMES {
-            for (i, w) in Walk::BOTH.into_iter().enumerate() {
+            for (i, w) in Walk::ON_STACK.into_iter().enumerate() {
                 let (d, ()) = best(1, || s.walk_by(w, &mut lent[i]));
                 least[i] = least[i].min(d);
             }
@@ -446,6 +446,38 @@ fn linked() {
             "| {n} records at {} | {plain:.3} | {with:.3} | {:.2} |",
             apart(size),
             with / plain
+        );
+    }
+}
+
+/// The library's walk on a stack, its textbook walk and the original's, by turns.
+fn textbook() {
+    println!(
+        "| reverse map | walk, ms | walk_textbook, ms | original, ms | textbook / walk | textbook / original |"
+    );
+    println!("|---|---:|---:|---:|---:|---:|");
+    for (n, size) in [(1_000_000, 4096), (2_000_000, 4096), (1_000_000, 512)] {
+        let s = tree_image(n, size);
+        let walks = [Walk::Plain, Walk::Textbook];
+        let mut lent = walks.map(|_| Lent::of(&s));
+        let mut least = [Duration::MAX; 3];
+        for _ in 0..TIMES {
+            for (i, w) in walks.into_iter().enumerate() {
+                let (d, ()) = best(1, || s.walk_by(w, &mut lent[i]));
+                least[i] = least[i].min(d);
+            }
+            let (d, a) = best(1, || s.walk_original());
+            least[2] = least[2].min(d);
+            let a = a.outcome.accepted().expect("the original walks it");
+            let same = |l: &Lent| l.records == a.records && l.blocks == a.blocks;
+            assert!(lent.iter().all(same));
+        }
+        let [walk, textbook, original] = least.map(ms);
+        println!(
+            "| {n} records at {} | {walk:.3} | {textbook:.3} | {original:.3} | {:.2} | {:.2} |",
+            apart(size),
+            textbook / walk,
+            textbook / original
         );
     }
 }
@@ -832,9 +864,10 @@ fn edit_vectors(n: usize) {
 type Part = fn(&mut Vec<Row>);
 
 /// The tables beside it.
-const OTHER_PARTS: [&str; 7] = [
+const OTHER_PARTS: [&str; 8] = [
     "forms",
     "linked",
+    "textbook",
     "stacks",
     "lookups",
     "vectors",
@@ -877,6 +910,9 @@ pub fn bench(words: &[String]) {
     }
     if wanted("linked") {
         linked();
+    }
+    if wanted("textbook") {
+        textbook();
     }
     if wanted("stacks") {
         stacks();

@@ -30,6 +30,7 @@ impl Filled for u64 {
     const ZERO: u64 = 0;
 }
 
+#[derive(PartialEq)]
 pub struct Lent<T> {
     all: Vec<T>,
 }

@@ -1,5 +1,6 @@
 //! The library's calls: the number and the figures of each, just as they come.
 
+use crate::machine::{given, lent, Call};
 use kf::raw;
 use oracle::rmap::Rmap;
 use oracle::Geometry;
@@ -36,6 +37,20 @@ pub fn g(g: &Geometry) -> G {
         agno: g.agno,
         high: (n >> 64) as u64,
         low: n as u64,
+    }
+}
+
+impl G {
+    /// Its six numbers as the words of a call.
+    fn words(&self) -> [u64; 6] {
+        let four = [
+            u32::from(self.version),
+            self.blocksize,
+            self.agblocks,
+            self.agno,
+        ];
+        let [version, blocksize, agblocks, agno] = four.map(u64::from);
+        [version, blocksize, agblocks, agno, self.high, self.low]
     }
 }
 
@@ -134,29 +149,34 @@ pub fn build(g: &G, kind: u32, list: &[u8], numbers: &[u32], out: &mut [u8]) -> 
 }
 
 /// Which walk: the one without and the one with the question whether the tree
-/// is linked.
+/// is linked, and the one of two routines that call each other.
 #[derive(Debug, Clone, Copy, PartialEq, Eq)]
 pub enum Walk {
     Plain,
     Linked,
+    Textbook,
 }
 
 impl Walk {
-    pub const BOTH: [Walk; 2] = [Walk::Plain, Walk::Linked];
+    pub const ALL: [Walk; 3] = [Walk::Plain, Walk::Linked, Walk::Textbook];
+    /// Those that are lent a stack.
+    pub const ON_STACK: [Walk; 2] = [Walk::Plain, Walk::Linked];
 
     pub fn name(self) -> &'static str {
         match self {
             Walk::Plain => "walk",
             Walk::Linked => "walk_linked",
+            Walk::Textbook => "walk_textbook",
         }
     }
 
-    /// The fourth figure of a walk that is done; the plain one has none.
+    /// The fourth figure of a walk that is done; only the linked one has it.
     pub fn says(self, linked: bool) -> u64 {
         u64::from(self == Walk::Linked && linked)
     }
 }
 
+/// A walk; the textbook walk is not given the stack.
 #[allow(clippy::too_many_arguments)]
 pub fn walk(
     w: Walk,
@@ -173,6 +193,9 @@ pub fn walk(
     let f = match w {
         Walk::Plain => raw::kf_walk,
         Walk::Linked => raw::kf_walk_linked,
+        Walk::Textbook => {
+            return walk_textbook(g, kind, image, root, levels, scratch, blocks, records)
+        }
     };
     said(|s| unsafe {
         f(
@@ -189,6 +212,41 @@ pub fn walk(
             levels,
             stack.as_mut_ptr(),
             stack.len(),
+            scratch.as_mut_ptr(),
+            scratch.len(),
+            blocks.as_mut_ptr(),
+            blocks.len(),
+            records.as_mut_ptr(),
+            records.len(),
+            s,
+        )
+    })
+}
+
+#[allow(clippy::too_many_arguments)]
+fn walk_textbook(
+    g: &G,
+    kind: u32,
+    image: &[u8],
+    root: u32,
+    levels: u32,
+    scratch: &mut [u64],
+    blocks: &mut [u32],
+    records: &mut [u8],
+) -> Said {
+    said(|s| unsafe {
+        raw::kf_walk_textbook(
+            g.version,
+            g.blocksize,
+            g.agblocks,
+            g.agno,
+            g.high,
+            g.low,
+            kind,
+            image.as_ptr(),
+            image.len(),
+            root,
+            levels,
             scratch.as_mut_ptr(),
             scratch.len(),
             blocks.as_mut_ptr(),
@@ -230,6 +288,71 @@ pub fn lookup(
             s,
         )
     })
+}
+
+/// The figures of a call, and the bytes of the machine's stack that it took.
+fn measured(function: *const (), mut parameters: Vec<u64>) -> (Said, usize) {
+    let mut figures = BEFORE;
+    parameters.push(figures.as_mut_ptr() as u64);
+    let call = Call {
+        function,
+        parameters,
+    };
+    // SAFETY: the callers below give each function the words of its parameters,
+    // slices by pointer and length, and figures.
+    let (number, taken) = unsafe { call.measured() };
+    (Said { number, figures }, taken)
+}
+
+/// As `walk`, on a stack of the machine that is measured.
+#[allow(clippy::too_many_arguments)]
+pub fn measured_walk(
+    w: Walk,
+    g: &G,
+    kind: u32,
+    image: &[u8],
+    root: u32,
+    levels: u32,
+    stack: &mut [u32],
+    scratch: &mut [u64],
+    blocks: &mut [u32],
+    records: &mut [u8],
+) -> (Said, usize) {
+    let function = match w {
+        Walk::Plain => raw::kf_walk as *const (),
+        Walk::Linked => raw::kf_walk_linked as *const (),
+        Walk::Textbook => raw::kf_walk_textbook as *const (),
+    };
+    let mut words = g.words().to_vec();
+    words.push(kind.into());
+    words.extend(given(image));
+    words.extend([root, levels].map(u64::from));
+    if w != Walk::Textbook {
+        words.extend(lent(stack));
+    }
+    words.extend(lent(scratch));
+    words.extend(lent(blocks));
+    words.extend(lent(records));
+    measured(function, words)
+}
+
+/// As `lookup`, on a stack of the machine that is measured.
+pub fn measured_lookup(
+    g: &G,
+    image: &[u8],
+    root: u32,
+    levels: u32,
+    asked: &[u32],
+    stack: &mut [u32],
+    answers: &mut [u64],
+) -> (Said, usize) {
+    let mut words = g.words().to_vec();
+    words.extend(given(image));
+    words.extend([root, levels].map(u64::from));
+    words.extend(given(asked));
+    words.extend(lent(stack));
+    words.extend(lent(answers));
+    measured(raw::kf_lookup as *const (), words)
 }
 
 /// Which edit of the reverse map.

@@ -175,7 +175,7 @@ impl Stored {
         seal(&g, b);
     }
 
-    /// Both walks; what they gave, where they were done.
+    /// The walks; what they gave, where they were done.
     fn walk(&self, tally: &mut Tally) -> Option<(Walked, bool)> {
         let root = *self.at.last().expect("a root");
         let Stored { g, kind, image, .. } = self;

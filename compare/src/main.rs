@@ -18,9 +18,11 @@ mod library;
 mod links;
 mod lists;
 mod lookups;
+mod machine;
 mod real;
 mod sample;
 mod tally;
+mod textbook;
 mod trees;
 mod vectors;
 
@@ -35,7 +37,7 @@ struct Part {
 }
 
 /// In this order: a part's seed goes by its place.
-const PARTS: [Part; 16] = [
+const PARTS: [Part; 17] = [
     Part {
         name: "crc",
         tries:
@@ -117,6 +119,11 @@ const PARTS: [Part; 16] = [
         name: "same",
         tries: "two lists of free extents: of a small world each beside each, and with something changed",
         run: free::sameness,
+    },
+    Part {
+        name: "textbook",
+        tries: "nine levels of full nodes, also on a small stack of the machine, and images with any pointers",
+        run: textbook::textbook,
     },
 ];
 

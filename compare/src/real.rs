@@ -255,11 +255,11 @@ fn history(file: &str, name: &str) -> u32 {
     m.insert + m.take_held + m.let_go
 }
 
-/// Both walks of a tree, read as one of a kind, with as many places and bytes
+/// The walks of a tree, read as one of a kind, with as many places and bytes
 /// as the tree has, beside the original's: its answer.
 fn walks(what: &str, t: &RealTree, kind: Kind, image: &[u8], linked: bool) -> WalkAnswer {
     let a = kinds::bare_walk(&t.g, kind, image, t.root, t.levels);
-    for w in Walk::BOTH {
+    for w in Walk::ALL {
         let mut m = Memory::new(Room {
             stack: kinds::STACK_PLACES,
             scratch: t.blocks.len(),
@@ -269,7 +269,7 @@ fn walks(what: &str, t: &RealTree, kind: Kind, image: &[u8], linked: bool) -> Wa
         let said = m.walk(w, &t.g, kind, image, t.root, t.levels);
         let due = walk_figures(&a, kind, w.says(linked));
         assert_eq!((said.number, said.figures), due, "{what} {w:?}");
-        for (part, r) in m.left(&a) {
+        for (part, r) in m.left(w, &a) {
             assert!(r.is_ok(), "{what} {w:?} {part}: {r:?}");
         }
     }
@@ -346,15 +346,16 @@ fn one_tree(case: &str, t: &RealTree) -> u32 {
         refused.push(format!("{} by {due}", name(kind)));
     }
     let (n, count) = (a.blocks.len(), a.records.len() / t.kind.record_len());
+    let walked = Kind::ALL.len() * Walk::ALL.len();
     let lookups = match looked {
         0 => String::new(),
         n => format!(", lookups {n}, keys theirs"),
     };
     println!(
-        "{what}: walks 8, block checks {n}{lookups}; blocks {n}, records {count} and siblings as printed, linked; refused as {}",
+        "{what}: walks {walked}, block checks {n}{lookups}; blocks {n}, records {count} and siblings as printed, linked; refused as {}",
         refused.join(", ")
     );
-    8 + n as u32 + looked as u32
+    walked as u32 + n as u32 + looked as u32
 }
 
 /// Both free-space trees: each list is accepted in its order, and they hold the

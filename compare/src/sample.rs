@@ -5,7 +5,7 @@
 //!
 //! | number | |
 //! |---|---|
-//! | 0 | the call: 1 crc32c, 2 check_rmaps, 3 check_refcounts, 4 check_block, 5 plan, 6 build, 7 walk, 8 insert, 9 insert_shared, 10 remove, 11 release, 12 let_go, 13 a walk over blocks that are given one by one, 14 take_held, 15 crc32c_singly, 16 walk_linked, 17 a walk_linked over blocks that are given one by one, 18 lookup, 19 check_by_block, 20 check_by_size, 21 same_extents; 0 after the last case |
+//! | 0 | the call: 1 crc32c, 2 check_rmaps, 3 check_refcounts, 4 check_block, 5 plan, 6 build, 7 walk, 8 insert, 9 insert_shared, 10 remove, 11 release, 12 let_go, 13 a walk over blocks that are given one by one, 14 take_held, 15 crc32c_singly, 16 walk_linked, 17 a walk_linked over blocks that are given one by one, 18 lookup, 19 check_by_block, 20 check_by_size, 21 same_extents, 22 walk_textbook, 23 a walk_textbook over blocks that are given one by one; 0 after the last case |
 //! | 1 | the answer |
 //! | 2 to 9 | the four figures, high half first |
 //! | 10 to 13 | version, block size, agblocks, agno |
@@ -13,11 +13,11 @@
 //! | 18 | the kind: 0 to 3 |
 //! | 19 | start, block or root |
 //! | 20 | count, level or levels |
-//! | 21, 22 | owner; the records of a plan; in 21 the blocks that a walk of 13 or 17 is given |
+//! | 21, 22 | owner; the records of a plan; in 21 the blocks that a walk of 13, 17 or 23 is given |
 //! | 23, 24 | offset |
 //! | 25, 26 | bytes of the two inputs |
-//! | 27, 28, 29 | bytes of the three outputs; of a walk (7, 13, 16 and 17) 29 is 1 where it leaves stack and scratch zero, 0 where they are untouched, of a lookup the same of its stack |
-//! | 30, 31 | of a walk: places of the stack and of the scratch; of a lookup in 30 those of the stack |
+//! | 27, 28, 29 | bytes of the three outputs; of a walk (7, 13, 16, 17, 22 and 23) 29 is 1 where it leaves stack and scratch zero, 0 where they are untouched, of a lookup the same of its stack |
+//! | 30, 31 | of a walk: places of the stack, of a textbook walk 0, and of the scratch; of a lookup in 30 those of the stack |
 //!
 //! Then the inputs, then what each output holds afterwards, all of it: outputs
 //! are lent filled with the byte 0xA5. The second input of a build is its
@@ -25,7 +25,7 @@
 //! are the list by block and the list by size. The first output of a
 //! lookup is its answers, 8 bytes each. What a plan and a walk leave in the nine places and in the
 //! block list, lent filled so too, stands where an input would: the first of
-//! a plan, the second of a walk. After the inputs of 13 and 17 come the blocks,
+//! a plan, the second of a walk. After the inputs of 13, 17 and 23 come the blocks,
 //! each as its place in the image and its bytes.
 
 use crate::blocks;
@@ -38,6 +38,7 @@ use crate::links;
 use crate::lists;
 use crate::lookups::{self, Due, Left, Lookup};
 use crate::real;
+use crate::textbook;
 use crate::trees;
 use oracle::alloc_btree::Order;
 use oracle::refusal::Outcome;
@@ -49,7 +50,7 @@ use std::collections::{BTreeMap, BTreeSet};
 const FILL: u8 = 0xA5;
 
 /// The calls by their number in a case.
-const CALLS: [&str; 22] = [
+const CALLS: [&str; 24] = [
     "end",
     "crc32c",
     "check_rmaps",
@@ -72,7 +73,12 @@ const CALLS: [&str; 22] = [
     "check_by_block",
     "check_by_size",
     "same_extents",
+    "walk_textbook",
+    "walk_textbook of real blocks",
 ];
+
+/// A textbook walk; the next is one of real blocks.
+const TEXTBOOK: u32 = 22;
 
 #[derive(Default)]
 struct Case {
@@ -401,7 +407,7 @@ fn walk_cases(r: &mut Random, cases: &mut Cases) {
     for _ in 0..3000 {
         let w = trees::small_walk(r, &Kind::OLDER);
         let (a, linked) = walked(&w);
-        for (walk, call) in Walk::BOTH.into_iter().zip([7, 16]) {
+        for (walk, call) in Walk::ON_STACK.into_iter().zip([7, 16]) {
             let said = trees::walk_figures(&a, w.kind, walk.says(linked));
             let wanted = match (&a.outcome, walk) {
                 // Of trees of several blocks, as many of each kind.
@@ -470,7 +476,8 @@ fn walk_case(
     let c = Case::new(call, said).geometry(&w.g, w.kind);
     let c = c.two(w.root, w.levels).given(&w.image, &places);
     let mut c = c.output(0, w.bytes, &records);
-    c.head[29..].copy_from_slice(&[u32::from(!early), w.stack as u32, w.scratch as u32]);
+    let stack = if call == TEXTBOOK { 0 } else { w.stack };
+    c.head[29..].copy_from_slice(&[u32::from(!early), stack as u32, w.scratch as u32]);
     c
 }
 
@@ -557,15 +564,21 @@ fn real_cases(files: &[String], cases: &mut Cases) {
             assert_eq!(c.head[1], 0, "a block of a real volume is good");
             cases.add(c);
         }
-        let last = t.stored.iter().map(|s| s.0).max().expect("a block");
-        if (u64::from(last) + 1) * t.g.block_size > 1460 * 2048 {
+        if let Some(last) = too_long(&t) {
             println!("{name} {:?}: not walked, blocks up to {last}", t.kind);
             continue;
         }
-        for (walk, call) in Walk::BOTH.into_iter().zip([13, 17]) {
+        for (walk, call) in Walk::ON_STACK.into_iter().zip([13, 17]) {
             cases.add(real_walk(walk, call, &t));
         }
     }
+}
+
+/// The last block of a tree whose image is too long for a program's stack.
+fn too_long(t: &real::RealTree) -> Option<u32> {
+    let last = t.stored.iter().map(|s| s.0).max().expect("a block");
+    let len = (u64::from(last) + 1) * t.g.block_size;
+    (len > 1460 * 2048).then_some(last)
 }
 
 /// The walk of a real tree.
@@ -587,7 +600,10 @@ fn real_walk(walk: Walk, call: u32, t: &real::RealTree) -> Case {
         c.body.extend(b);
     }
     let mut c = c.output(0, n, &t.records);
-    let stack = kinds::STACK_PLACES;
+    let stack = match walk {
+        Walk::Textbook => 0,
+        _ => kinds::STACK_PLACES,
+    };
     c.head[21] = t.stored.len() as u32;
     c.head[29..].copy_from_slice(&[1, stack as u32, t.blocks.len() as u32]);
     c
@@ -612,7 +628,7 @@ fn stack_cases(cases: &mut Cases) {
             bytes: 100,
         };
         let (a, linked) = walked(&w);
-        for (walk, call) in Walk::BOTH.into_iter().zip([7, 16]) {
+        for (walk, call) in Walk::ON_STACK.into_iter().zip([7, 16]) {
             let said = trees::walk_figures(&a, w.kind, walk.says(linked));
             cases.add(walk_case(call, said, &w, &a.outcome));
         }
@@ -682,7 +698,7 @@ fn free_tree_cases(r: &mut Random, cases: &mut Cases) {
     for _ in 0..6000 {
         let w = trees::small_walk(r, of);
         let (a, linked) = walked(&w);
-        for (walk, call) in Walk::BOTH.into_iter().zip([7, 16]) {
+        for (walk, call) in Walk::ON_STACK.into_iter().zip([7, 16]) {
             let said = trees::walk_figures(&a, w.kind, walk.says(linked));
             // Of trees of several blocks; refused by what goes by the kind, by the one
             // call, since both refuse alike.
@@ -694,6 +710,103 @@ fn free_tree_cases(r: &mut Random, cases: &mut Cases) {
             if wanted {
                 show(walk_case(call, said, &w, &a.outcome));
             }
+        }
+    }
+}
+
+/// A tree whose nodes have one block as every child, its leaf with any records, as a
+/// textbook walk is lent memory for it.
+fn folded_walk(r: &mut Random, version: u64, kind: Kind, counts: &[usize]) -> trees::SmallWalk {
+    let mut g = Geometry::v5(512);
+    g.version = version;
+    (g.agblocks, g.agno) = (9, 3);
+    g.meta_uuid = r.bytes(16).try_into().expect("16 bytes");
+    let mut image = trees::folded(&g, kind, counts);
+    let records = r.bytes(counts[0] * kind.record_len());
+    image[kinds::header_len(&g)..][..records.len()].copy_from_slice(&records);
+    blocks::seal(&g, &mut image[..512]);
+    let levels = counts.len() as u32;
+    trees::SmallWalk {
+        g,
+        kind,
+        image,
+        root: levels - 1,
+        levels,
+        // Not lent: with as many the other walks come to the same.
+        stack: kinds::STACK_PLACES,
+        scratch: 5,
+        blocks: 4,
+        bytes: 2 * records.len() + 7,
+    }
+}
+
+/// Textbook walks with each of their answers: where it can be, refused past the root;
+/// those done meet a block twice, on either version, and through nine levels. Then
+/// those of real trees.
+fn textbook_cases(files: &[String], cases: &mut Cases) {
+    let mut r = Random(2027);
+    let mut add = |number: u32, w: &trees::SmallWalk| {
+        let (a, _) = walked(w);
+        let said = trees::walk_figures(&a, w.kind, 0);
+        assert_eq!(said.0, number, "a textbook walk");
+        cases.add(walk_case(TEXTBOOK, said, w, &a.outcome));
+    };
+    // The root has the leaf twice.
+    let two = [2, 2];
+    for (version, kind) in [(5, Kind::RMAP), (4, Kind::BY_BLOCK), (5, Kind::BY_SIZE)] {
+        add(0, &folded_walk(&mut r, version, kind, &two));
+    }
+    let mut w = folded_walk(&mut r, 5, Kind::REFCOUNT, &trees::few_children(9));
+    (w.scratch, w.blocks, w.bytes) = (32, 31, 4 * 12);
+    add(0, &w);
+
+    let mut leaf = |kind| folded_walk(&mut r, 5, kind, &[1]);
+    let mut w = leaf(Kind::RMAP);
+    w.g.version = 6;
+    add(1, &w);
+    let mut w = leaf(Kind::REFCOUNT);
+    w.g.version = 4;
+    add(3, &w);
+    let mut w = leaf(Kind::BY_BLOCK);
+    w.levels = 10;
+    add(11, &w);
+    let mut w = leaf(Kind::BY_SIZE);
+    w.scratch = w.blocks - 1;
+    add(12, &w);
+
+    // A byte of the leaf is another, and its check is put right but for 5.
+    let fields = [(4, 0), (5, 511), (6, 32), (7, 51), (8, 23), (9, 5), (10, 6)];
+    for ((number, at), kind) in fields.into_iter().zip(Kind::ALL.into_iter().cycle()) {
+        let mut w = folded_walk(&mut r, 5, kind, &two);
+        w.image[at] ^= 1;
+        if number != 5 {
+            blocks::seal(&w.g, &mut w.image[..512]);
+        }
+        add(number, &w);
+    }
+    // 91 visits, of which 64 are made.
+    let mut w = folded_walk(&mut r, 5, Kind::BY_SIZE, &[1, 9, 9]);
+    (w.scratch, w.blocks, w.bytes) = (65, 65, 65 * 8);
+    add(13, &w);
+    // The second child is past the image.
+    let mut w = folded_walk(&mut r, 4, Kind::BY_SIZE, &two);
+    links::put(&mut w.image[512..], kinds::pointer(&w.g, w.kind, 1), 2);
+    add(14, &w);
+    // The second leaf is a block more than there is room for, or has a record more.
+    let mut w = folded_walk(&mut r, 5, Kind::RMAP, &two);
+    (w.scratch, w.blocks) = (2, 2);
+    add(15, &w);
+    let mut w = folded_walk(&mut r, 4, Kind::BY_BLOCK, &two);
+    w.bytes = 4 * 8 - 1;
+    add(15, &w);
+    for n in textbook::ANSWERS {
+        let of = (TEXTBOOK, n);
+        assert!(cases.seen.contains_key(&of), "no textbook walk answers {n}");
+    }
+
+    for t in files.iter().flat_map(|f| real::read(f)) {
+        if too_long(&t).is_none() {
+            cases.add(real_walk(Walk::Textbook, TEXTBOOK + 1, &t));
         }
     }
 }
@@ -714,6 +827,7 @@ pub fn sample(words: &[String]) {
     free_list_cases(&mut r, &mut cases);
     free_tree_cases(&mut r, &mut cases);
     stack_cases(&mut cases);
+    textbook_cases(real, &mut cases);
     let mut out = Vec::new();
     for c in &cases.all {
         out.extend(number_bytes(&c.head));

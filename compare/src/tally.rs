@@ -8,6 +8,8 @@ use std::collections::{BTreeMap, BTreeSet};
 pub struct Tally {
     counts: BTreeMap<(&'static str, u32), u64>,
     noted: BTreeMap<&'static str, BTreeMap<&'static str, u64>>,
+    /// The most of something that was measured.
+    measured: BTreeMap<&'static str, BTreeMap<&'static str, u64>>,
     /// The answers met on free-space trees, by call and version.
     free: BTreeMap<(&'static str, u64), BTreeSet<u32>>,
 }
@@ -29,6 +31,34 @@ impl Tally {
     /// One more of some calls, `what`, that came out in one of several ways.
     pub fn note(&mut self, what: &'static str, how: &'static str) {
         *self.noted.entry(what).or_default().entry(how).or_default() += 1;
+    }
+
+    /// So much of something was measured of one of several; the most is kept.
+    pub fn measure(&mut self, what: &'static str, of: &'static str, n: u64) {
+        let measured = self.measured.entry(what).or_default();
+        let most = measured.entry(of).or_default();
+        *most = n.max(*most);
+    }
+
+    /// What another has counted besides.
+    pub fn take(&mut self, other: Tally) {
+        for (k, n) in other.counts {
+            *self.counts.entry(k).or_default() += n;
+        }
+        for (what, by) in other.noted {
+            let mine = self.noted.entry(what).or_default();
+            for (how, n) in by {
+                *mine.entry(how).or_default() += n;
+            }
+        }
+        for (what, by) in other.measured {
+            for (of, n) in by {
+                self.measure(what, of, n);
+            }
+        }
+        for (k, met) in other.free {
+            self.free.entry(k).or_default().extend(met);
+        }
     }
 
     /// An `insert` refused by 23: what the original does with it.
@@ -88,7 +118,7 @@ impl Tally {
             let by: Vec<String> = mine.iter().map(|(k, n)| format!("{k}: {n}")).collect();
             println!("{call:<16} {total:>9}   {}", by.join(", "));
         }
-        for (what, by) in &self.noted {
+        for (what, by) in self.noted.iter().chain(&self.measured) {
             let by: Vec<String> = by.iter().map(|(k, n)| format!("{k} {n}")).collect();
             println!("{what}: {}", by.join(", "));
         }

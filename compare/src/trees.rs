@@ -19,6 +19,9 @@ use oracle::{Geometry, Tree};
 /// The walks of `stacks`, by what became of them.
 pub const STACKS: &str = "walk, stack";
 
+/// The images whose walk 12 refuses, by what becomes of the textbook walk.
+pub const TEXTBOOK: &str = "walk_textbook, where 12 refuses the walk";
+
 fn one_plan(g: &Geometry, kind: Kind, records: u64, tally: &mut Tally) {
     let input = || format!("{g:?} {kind:?} records {records}");
     let want = kinds::plan(g, kind, records);
@@ -270,8 +273,8 @@ pub struct Room {
     pub bytes: usize,
 }
 
-/// Both walks of an image: what they gave, where they were done, and whether
-/// the tree is linked.
+/// The walks of an image: what those on the stack gave, where they were done, and
+/// whether the tree is linked.
 pub fn one_walk(
     g: &Geometry,
     kind: Kind,
@@ -292,7 +295,24 @@ pub fn one_walk(
         Outcome::Accepted(w) => links::linked(g, image, &w.blocks),
         _ => false,
     };
-    for w in Walk::BOTH {
+    // Lent no stack, the textbook walk comes to what the others do on a long one.
+    let without = match room.stack {
+        0..STACK_PLACES => {
+            let stack_places = usize::MAX;
+            let lent = &paper::Lent {
+                stack_places,
+                ..lent
+            };
+            Some(kinds::walk_blocks(g, kind, image, root, levels, lent))
+        }
+        _ => None,
+    };
+    let textbook = without.as_ref().unwrap_or(&want);
+    for w in Walk::ALL {
+        let want = match w {
+            Walk::Textbook => textbook,
+            _ => &want,
+        };
         let input = || {
             format!(
                 "{} {g:?} {kind:?} root {root} levels {levels} {room:?} image {}",
@@ -302,12 +322,19 @@ pub fn one_walk(
         };
         let mut m = Memory::new(room);
         let got = m.walk(w, g, kind, image, root, levels);
-        let due = walk_figures(&want, kind, w.says(linked));
+        let due = walk_figures(want, kind, w.says(linked));
         same(w.name(), &got, due, &input);
-        for (what, r) in m.left(&want) {
+        for (what, r) in m.left(w, want) {
             bytes(w.name(), what, r, &input);
         }
         tally.add_tree(w.name(), kind, g, got.number);
+    }
+    if want.outcome.number() == Some(12) {
+        let how = match textbook.outcome.number() {
+            Some(12) => "refused by 12 for its scratch",
+            _ => "goes on",
+        };
+        tally.note(TEXTBOOK, how);
     }
     let walked = want.outcome.accepted()?;
     tally.note(links::LINKED, if linked { "linked" } else { "not linked" });
@@ -328,6 +355,7 @@ pub fn walk_figures(a: &WalkAnswer, kind: Kind, last: u64) -> (u32, [u64; 4]) {
 }
 
 /// What a walk is lent.
+#[derive(PartialEq)]
 pub struct Memory {
     stack: Lent<u32>,
     scratch: Lent<u64>,
@@ -368,8 +396,32 @@ impl Memory {
         )
     }
 
+    /// The same walk, with what it takes of the machine's stack.
+    pub fn measured(
+        &mut self,
+        w: Walk,
+        g: &Geometry,
+        kind: Kind,
+        image: &[u8],
+        root: u32,
+        levels: u32,
+    ) -> (library::Said, usize) {
+        library::measured_walk(
+            w,
+            &library::g(g),
+            kind.number(),
+            image,
+            root,
+            levels,
+            self.stack.part(),
+            self.scratch.part(),
+            self.blocks.part(),
+            self.records.part(),
+        )
+    }
+
     /// Is all of it as a walk with that answer leaves it?
-    pub fn left(&self, a: &WalkAnswer) -> [(&'static str, Result<(), String>); 4] {
+    pub fn left(&self, w: Walk, a: &WalkAnswer) -> [(&'static str, Result<(), String>); 4] {
         let (s, c, b, o) = (&self.stack, &self.scratch, &self.blocks, &self.records);
         let (s, c, b, o) = match &a.outcome {
             Outcome::Accepted(w) => {
@@ -384,6 +436,10 @@ impl Memory {
             }
             _ => (s.zero(), c.zero(), b.zero(), o.zero()),
         };
+        let s = match w {
+            Walk::Textbook => self.stack.untouched(),
+            _ => s,
+        };
         [("stack", s), ("scratch", c), ("blocks", b), ("records", o)]
     }
 }
@@ -394,6 +450,7 @@ pub fn walks(r: &mut Random, scale: u64, tally: &mut Tally) {
     stacks(r, &Kind::OLDER, tally);
     tally.met_ways(STACKS, 3);
     tally.met_both(links::LINKED);
+    tally.met_both(TEXTBOOK);
 }
 
 /// Trees built, stored, then walked whole, damaged or with less memory.
@@ -565,7 +622,7 @@ pub fn stack_kind(stack: usize, larger: usize) -> &'static str {
 
 /// Every block size and number of levels, with no stack, with stacks around 18
 /// places and around document 01's: 12 refuses those below 18, and on any other the
-/// walk comes to the same.
+/// walk comes to the same, as the textbook walk does with any.
 pub fn stacks(r: &mut Random, of: &[Kind], tally: &mut Tally) {
     for &kind in of {
         for (size, levels) in kinds::sizes_and_levels() {

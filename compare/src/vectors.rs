@@ -165,6 +165,7 @@ pub fn build(r: &mut Random, of: &[Kind], tally: &mut Tally) {
     tally.add("Tree::build", got.err().unwrap_or(0));
 }
 
+/// A walk by each of the two calls.
 pub fn walk(r: &mut Random, of: &[Kind], tally: &mut Tally) {
     let w = trees::small_walk(r, of);
     // What the layer has room for.
@@ -186,18 +187,25 @@ pub fn walk(r: &mut Random, of: &[Kind], tally: &mut Tally) {
         }
     };
     let root = Root::new(w.root, w.levels, w.blocks as u32);
-    let got = kf::Tree::walk(&geometry(&w.g), kind(w.kind), &w.image, root)
+    let by_walk = kf::Tree::walk(&geometry(&w.g), kind(w.kind), &w.image, root)
         .map(|t| (t.blocks, t.records, t.linked))
         .map_err(|refused| (refused.refusal.number, refused.visits));
-    if got != due {
-        let (say, image) = (format!("{got:02x?}"), hex(&w.image));
-        let input = format!(
-            "{:?} {:?} root {} levels {} blocks {} image {image}",
-            w.g, w.kind, w.root, w.levels, w.blocks
-        );
-        differ("Tree::walk", "result", &say, &format!("{due:02x?}"), &input);
+    // This one does not say whether the tree is linked.
+    let linked = due.as_ref().is_ok_and(|d| d.2);
+    let textbook = kf::Tree::walk_textbook(&geometry(&w.g), kind(w.kind), &w.image, root)
+        .map(|t| (t.blocks, t.records, linked))
+        .map_err(|refused| (refused.refusal.number, refused.visits));
+    for (call, got) in [("Tree::walk", by_walk), ("Tree::walk_textbook", textbook)] {
+        if got != due {
+            let (say, image) = (format!("{got:02x?}"), hex(&w.image));
+            let input = format!(
+                "{:?} {:?} root {} levels {} blocks {} image {image}",
+                w.g, w.kind, w.root, w.levels, w.blocks
+            );
+            differ(call, "result", &say, &format!("{due:02x?}"), &input);
+        }
+        tally.add(call, got.err().map_or(0, |(n, _)| n));
     }
-    tally.add("Tree::walk", got.err().map_or(0, |(n, _)| n));
 }
 
 fn lookup(r: &mut Random, tally: &mut Tally) {

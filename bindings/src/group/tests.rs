@@ -1,7 +1,7 @@
 //! What the vectors lend is enough, whatever they are given.
 
 use super::*;
-use crate::{check_refcounts, check_rmaps, insert, let_go, take_held, Question};
+use crate::{check_refcounts, check_rmaps, crc32c, insert, let_go, take_held, Question};
 use alloc::collections::BTreeSet;
 
 /// Marsaglia's xorshift: numbers that are the same at each run.
@@ -367,6 +367,8 @@ fn any_root() {
                         };
                         assert_eq!(refused.refusal.number, wanted, "{g:?} {root:?}");
                         assert_eq!(refused.kind, kind);
+                        let textbook = Tree::walk_textbook(&g, kind, &image, root);
+                        assert_eq!(textbook, Err(refused));
                         if kind == Kind::Rmap {
                             let looked = Tree::lookup(&g, &image, root, &[1, 2]);
                             assert_eq!(looked, Err(refused));
@@ -436,15 +438,69 @@ fn more_than_the_first_room() {
         let root = Root::new(root.root, root.levels, blocks);
         let tree = Tree::walk(&g, Kind::Rmap, &image, root).unwrap();
         assert!(tree.records == map && tree.blocks == numbers && tree.linked);
+        let lists = Tree::walk_textbook(&g, Kind::Rmap, &image, root).unwrap();
+        assert!(lists.records == map && lists.blocks == numbers);
     }
+    let refused_by = |image: &[u8], root| {
+        let refused = Tree::walk(&g, Kind::Rmap, image, root).unwrap_err();
+        let textbook = Tree::walk_textbook(&g, Kind::Rmap, image, root);
+        assert_eq!(textbook, Err(refused));
+        refused.refusal.question()
+    };
     let short = Root::new(root.root, root.levels, root.blocks - 1);
-    let refused = Tree::walk(&g, Kind::Rmap, &image, short).unwrap_err();
-    assert_eq!(refused.refusal.question(), Some(Question::Full));
+    assert_eq!(refused_by(&image, short), Some(Question::Full));
     // A damaged leaf is refused as the call on lent memory refuses it.
     let mut damaged = image.clone();
     damaged[400 * 512] ^= 1;
-    let refused = Tree::walk(&g, Kind::Rmap, &damaged, root).unwrap_err();
-    assert_eq!(refused.refusal.question(), Some(Question::Magic));
+    assert_eq!(refused_by(&damaged, root), Some(Question::Magic));
+}
+
+/// Whatever bit of a small tree is another: both walks give the same lists or
+/// the same refusal, and each question that a bit can fail is met.
+#[test]
+fn walked_by_both_with_a_bit_changed() {
+    let g = Geometry::new(5, 512, 9, 3, [7; 16]);
+    let records = (0..40).flat_map(|i| {
+        let r = Rmap {
+            startblock: 4 * i,
+            blockcount: 2,
+            owner: 7,
+            offset: 0,
+        };
+        r.to_bytes()
+    });
+    let map: Vec<u8> = records.collect();
+    let mut image = Tree::build(&g, Kind::Rmap, &map, &[0, 1, 2, 3]).unwrap();
+    let root = Root::new(3, 2, 4);
+    let seal = |block: &mut [u8]| {
+        block[52..56].fill(0);
+        let crc = crc32c(block);
+        block[52..56].copy_from_slice(&crc.to_le_bytes());
+    };
+    let mut met = BTreeSet::new();
+    for i in 0..image.len() {
+        for bit in 0..8 {
+            for sealed in [false, true] {
+                let before = image.clone();
+                image[i] ^= 1 << bit;
+                if sealed {
+                    let from = i / 512 * 512;
+                    seal(&mut image[from..][..512]);
+                }
+                let walked = Tree::walk(&g, Kind::Rmap, &image, root);
+                let lists = Tree::walk_textbook(&g, Kind::Rmap, &image, root);
+                met.insert(walked.as_ref().map_or_else(|r| r.refusal.number, |_| 0));
+                let walked = walked.map(|tree| (tree.blocks, tree.records));
+                let lists = lists.map(|lists| (lists.blocks, lists.records));
+                assert_eq!(walked, lists, "bit {bit} of byte {i}");
+                image = before;
+            }
+        }
+    }
+    // Of the root's pointers one can be outside (14); claiming more entries, it has
+    // more children than there is room for (15).
+    let numbers = [0, 4, 5, 6, 7, 8, 9, 10, 14, 15];
+    assert!(met.iter().eq(&numbers), "{met:?}");
 }
 
 /// Trees of several levels and block sizes: each answer is what counting over

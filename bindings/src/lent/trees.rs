@@ -11,7 +11,7 @@ pub const NO_SIBLING: u32 = u32::MAX;
 
 /// The places that the stack of a [`walk`], a [`walk_linked`] or a [`lookup`] has
 /// to have: a block and its next child for each of nine levels, whatever the
-/// levels, the kind and the block size of the tree.
+/// levels, the kind and the block size of the tree. A [`walk_textbook`] has none.
 ///
 /// ```
 /// use kf::{Geometry, Kind, Lent, Question, Tree, STACK_PLACES};
@@ -299,6 +299,34 @@ impl<'a> Lent<'a> {
     }
 }
 
+/// What a textbook walk is lent: what a [`walk`] is, but no stack.
+#[derive(Debug)]
+#[non_exhaustive]
+pub struct WalkLists<'a> {
+    /// The blocks visited, each with its level.
+    pub scratch: &'a mut [u64],
+    /// Gets the blocks by level, leaves first.
+    pub blocks: &'a mut [u32],
+    /// Gets the bytes of the records.
+    pub records: &'a mut [u8],
+}
+
+impl<'a> WalkLists<'a> {
+    /// The three, as given; the walk asks whether the scratch is long enough
+    /// (question 12).
+    pub fn new(
+        scratch: &'a mut [u64],
+        blocks: &'a mut [u32],
+        records: &'a mut [u8],
+    ) -> WalkLists<'a> {
+        WalkLists {
+            scratch,
+            blocks,
+            records,
+        }
+    }
+}
+
 /// What a finished walk gave.
 #[derive(Debug, Clone, Copy, PartialEq, Eq)]
 #[non_exhaustive]
@@ -334,7 +362,18 @@ type WalkCall = unsafe extern "C" fn(
     *mut [u64; 4],
 ) -> u32;
 
-/// A walk by one of the two calls, with its fourth figure.
+/// What a walk of a tree of the kind came to, with its fourth figure.
+fn walk_answer(kind: Kind, n: u32, said: &[u64; 4]) -> Result<(Walked, u64), WalkRefusal> {
+    let walked = Walked {
+        visits: said[0] as usize,
+        records: said[1] as usize,
+        bytes: said[2] as usize,
+    };
+    answer(n, said, (walked, said[3]))
+        .map_err(|refusal| WalkRefusal::new(kind, refusal, said[2] as usize))
+}
+
+/// A walk by one of the two calls on a stack, with its fourth figure.
 fn walk_by(
     f: WalkCall,
     g: &Geometry,
@@ -372,13 +411,7 @@ fn walk_by(
             &mut said,
         )
     };
-    let walked = Walked {
-        visits: said[0] as usize,
-        records: said[1] as usize,
-        bytes: said[2] as usize,
-    };
-    answer(n, &said, (walked, said[3]))
-        .map_err(|refusal| WalkRefusal::new(kind, refusal, said[2] as usize))
+    walk_answer(kind, n, &said)
 }
 
 /// Reads a tree of so many levels from its root. The image is the group, block
@@ -462,6 +495,85 @@ pub fn walk_linked(
 ) -> Result<(Walked, bool), WalkRefusal> {
     walk_by(raw::kf_walk_linked, g, kind, image, root, levels, lent)
         .map(|(walked, linked)| (walked, linked == 1))
+}
+
+/// The walk as textbooks have it, for a caller who has no stack to lend: one
+/// routine reads a block, another its children from left to right, each calling
+/// the other. It gives, refuses and leaves what [`walk`] does on the same image
+/// with a stack of [`STACK_PLACES`] places or more. Questions 1, 11 and 12 (the
+/// scratch alone, of as many places as the block list or more), then at each
+/// block 13, 14, 3 to 10 and 15.
+///
+/// Its calls go as deep as the tree has levels, however many children a block
+/// has, so that it takes little of the machine's stack ([`raw`](crate::raw) says
+/// how much).
+///
+/// ```
+/// use kf::{build, walk_textbook, Geometry, Kind, Question, Rmap, WalkLists};
+/// let g = Geometry::new(5, 512, 9, 0, [7; 16]);
+/// let list: Vec<u8> = (0..50)
+///     .flat_map(|i| Rmap { startblock: 8 * i, blockcount: 2, owner: 7, offset: 0 }.to_bytes())
+///     .collect();
+/// // Three leaves and the root, one after another.
+/// let mut image = [0; 4 * 512];
+/// build(&g, Kind::Rmap, &list, &[0, 1, 2, 3], &mut image).unwrap();
+/// let (mut scratch, mut blocks, mut records) = ([9; 5], [9; 5], vec![9; 50 * 24 + 1]);
+/// let lists = WalkLists::new(&mut scratch, &mut blocks, &mut records);
+/// let walked = walk_textbook(&g, Kind::Rmap, &image, 3, 2, lists).unwrap();
+/// assert_eq!((walked.visits, walked.records, walked.bytes), (4, 50, 1200));
+/// // The scratch is zero, and what lies past the results stays.
+/// assert_eq!((scratch, blocks), ([0; 5], [0, 1, 2, 3, 9]));
+/// assert!(records[..1200] == list && records[1200] == 9);
+///
+/// // Fewer places of scratch than of the block list are refused by 12, which
+/// // touches nothing.
+/// let lists = WalkLists::new(&mut scratch[..4], &mut blocks, &mut records);
+/// let refused = walk_textbook(&g, Kind::Rmap, &image, 3, 2, lists).unwrap_err();
+/// assert_eq!(refused.refusal.question(), Some(Question::Scratch));
+/// assert_eq!(blocks, [0, 1, 2, 3, 9]);
+///
+/// // Refused later, here by a damaged leaf, it leaves all zero.
+/// image[512] ^= 1;
+/// let lists = WalkLists::new(&mut scratch, &mut blocks, &mut records);
+/// let refused = walk_textbook(&g, Kind::Rmap, &image, 3, 2, lists).unwrap_err();
+/// assert_eq!((refused.refusal.question(), refused.visits), (Some(Question::Magic), 3));
+/// assert!(blocks == [0; 5] && records.iter().all(|&b| b == 0));
+/// ```
+pub fn walk_textbook(
+    g: &Geometry,
+    kind: Kind,
+    image: &[u8],
+    root: u32,
+    levels: u32,
+    lists: WalkLists<'_>,
+) -> Result<Walked, WalkRefusal> {
+    let mut said = [0; 4];
+    let (high, low) = g.uuid_halves();
+    // SAFETY: a slice that the call reads, three that it writes, which do not
+    // overlap, and four numbers that it writes.
+    let n = unsafe {
+        raw::kf_walk_textbook(
+            g.version,
+            g.blocksize,
+            g.agblocks,
+            g.agno,
+            high,
+            low,
+            kind.number(),
+            image.as_ptr(),
+            image.len(),
+            root,
+            levels,
+            lists.scratch.as_mut_ptr(),
+            lists.scratch.len(),
+            lists.blocks.as_mut_ptr(),
+            lists.blocks.len(),
+            lists.records.as_mut_ptr(),
+            lists.records.len(),
+            &mut said,
+        )
+    };
+    walk_answer(kind, n, &said).map(|(walked, _)| walked)
 }
 
 /// How many records of the reverse map lie over each of the block numbers
