@@ -25,6 +25,12 @@ use Rattle.book.specs.declared.subtree.Subtree.{Subtree}
 use Rattle.book.specs.declared.subtree.Subtree.the-variants.{Refused}
 use Rattle.book.specs.inner.Subtree.{Reached}
 
+-- ---- the measure
+
+-- what is left to do at a call is less than what is left to do at its caller
+pub less : {x m t : ℕ} → m ≡ t → x < m → x < t
+less {x} e h = subst (λ (k : ℕ). x < k) e h
+
 -- ---- a block
 
 -- a visit that was accepted found what is below its block, and its records

@@ -31,10 +31,7 @@ pub(crate) struct Limits {
 // What the walk of a block, and of all below it, comes to: the counts after it, or the refusal that ends the walk, after so many visits.
 pub(crate) enum Subtree {
     Read(Count),
-    Refused {
-        refusal: WalkRefusal,
-        visits: usize,
-    },
+    Refused { refusal: WalkRefusal, visits: usize },
 }
 
 // Reads a block that is due, and then its children: 13 before anything else of it, then the visit's 14, 3 to 10 and 15.

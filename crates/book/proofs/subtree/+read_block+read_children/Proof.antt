@@ -18,7 +18,7 @@ use Rattle.walks.proofs.WalkLaws.{walking-spent, walking-stop}
 use Rattle.walks.proofs.PathLaws.{due-none}
 use Rattle.book.specs.declared.subtree.Subtree.{Subtree}
 use Rattle.book.specs.inner.Subtree.{Reached, Fits}
-use Rattle.book.proofs.ReadLaws.{look-is, fits-next, leaf-read, node-read, child-next, ended}
+use Rattle.book.proofs.ReadLaws.{less, look-is, fits-next, leaf-read, node-read, child-next, ended}
 use borrow.Fn.Kinds.{In}
 use borrow.Fn.PlainCycle.{Measures, is, falls, and}
 use Rattle.book.proofs.subtree.read_block.Reads as read-block
@@ -63,10 +63,10 @@ read-children-below t =
 -- what each of the two is told of the functions that it calls
 abbrev block-knows : ℕ → read-block-lts.Claims
 block-knows t = (
-      visit-reads.Asked,
-      visit-reads.Learnt,
-      read-children-below t,
-      read-children.Post,
+  visit-reads.Asked,
+  visit-reads.Learnt,
+  read-children-below t,
+  read-children.Post,
 )
 
 abbrev children-knows : ℕ → read-children-lts.Claims
@@ -122,9 +122,6 @@ read-block-visit-requires t c κs = search needs
 read-block-enum-known-step : (t : ℕ) → read-block-lts.Need-enum-known-step (block-knows t) (read-block-at t) read-block.Post
 read-block-enum-known-step t c = search needs
 
-read-block-add-t22 : (t : ℕ) → read-block-lts.Need-add-t22 (block-knows t) (read-block-at t) read-block.Post
-read-block-add-t22 t c = search needs
-
 read-block-enum-known-step-2 : (t : ℕ) → read-block-lts.Need-enum-known-step-2 (block-knows t) (read-block-at t) read-block.Post
 read-block-enum-known-step-2 t c = search needs
 
@@ -147,6 +144,9 @@ read-block-returns-2 t c =
       fits t v n told,
     )
 
+read-block-add-t22 : (t : ℕ) → read-block-lts.Need-add-t22 (block-knows t) (read-block-at t) read-block.Post
+read-block-add-t22 t c = search needs
+
 read-block-read-children-requires : (t : ℕ) → read-block-lts.Need-read-children-requires (block-knows t) (read-block-at t) read-block.Post
 read-block-read-children-requires t c κs =
     let v = c .before .before .before .before .before .before .before .before .before .before .before in
@@ -156,7 +156,7 @@ read-block-read-children-requires t c κs =
     let told = ap stepOutcome (c .before .before .before .before .before .step2 .given .1) in
     let up : 0 < a .level = pos-of-ne-zero (c .before .before .if2 .left) in
     let l = look-is (a .g) (a .kind) (now (a .image)) (a .block) (a .level) (a .limits .blocks) (length (now (a .out))) (a .c) n (stepped t v n told) (s .pre .1 .0) in
-    (subst (λ (m : ℕ). a .level * 2 - 1 < m) (s .pre .0) (omega (arith, up)), ((s .pre .1 .0, omega (arith, up), l .inside), (l .most up, fits t v n told)))
+    (less (s .pre .0) (omega (arith, up)), ((s .pre .1 .0, omega (arith, up), l .inside), (l .most up, fits t v n told)))
 
 read-block-same-length-3 : (t : ℕ) → read-block-lts.Need-same-length-3 (block-knows t) (read-block-at t) read-block.Post
 read-block-same-length-3 t c = search needs
@@ -263,7 +263,7 @@ read-children-read-block-requires : (t : ℕ) → read-children-lts.Need-read-bl
 read-children-read-block-requires t c κs =
     let s = c .before .before .before .before .before .before .before .before .before .before in
     let a = s .args in
-    (subst (λ (m : ℕ). (a .level - 1) * 2 < m) (s .pre .0) (omega (arith, s .pre .1 .0 .1)), (s .pre .1 .0 .0, c .before .before .before .before .loop .inv .1))
+    (less (s .pre .0) (omega (arith, s .pre .1 .0 .1)), (s .pre .1 .0 .0, c .before .before .before .before .loop .inv .1))
 
 read-children-enum-known-below : (t : ℕ) → read-children-lts.Need-enum-known-below (children-knows t) (read-children-at t) read-children.Post read-children-Inv-loop read-children-μ-loop
 read-children-enum-known-below t c = search needs
