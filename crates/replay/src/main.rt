@@ -27,6 +27,7 @@ use tree_calls::whole_trees::kf_lookup;
 use tree_calls::whole_trees::kf_plan;
 use tree_calls::whole_trees::kf_walk;
 use tree_calls::whole_trees::kf_walk_linked;
+use tree_calls::whole_trees::kf_walk_textbook;
 
 // A name, and a number in decimal.
 fn print_number(name: &[u8], n: u64) {
@@ -204,7 +205,7 @@ fn numbers_as_due(list: &[u32], due: &[u8]) -> bool {
     true
 }
 
-// The walk of a case, by the call that asks about links too or by the one that does not.
+// The walk of a case, by the call that asks about links too, by the textbook or by the one that does neither.
 fn walk_by(
     head: &[u8],
     image: &[u8],
@@ -237,6 +238,24 @@ fn walk_by(
             root,
             levels,
             stack,
+            scratch,
+            blocks,
+            records,
+            said,
+        );
+    }
+    if call == 22 || call == 23 {
+        return kf_walk_textbook(
+            version,
+            blocksize,
+            agblocks,
+            agno,
+            high,
+            low,
+            kind,
+            image,
+            root,
+            levels,
             scratch,
             blocks,
             records,
@@ -552,11 +571,11 @@ fn call_as_due(
         4 => on_block(head, a),
         5 => on_plan(head, a),
         6 => on_build(head, a, b, x, list),
-        7 | 16 => on_walk(head, a, b, x),
+        7 | 16 | 22 => on_walk(head, a, b, x),
         8 | 9 | 10 => on_edit(head, call, a, x),
         11 => on_release(head, a, x, y),
         12 => on_let_go(head, a, b, x, y, z),
-        13 | 17 => on_real_walk(head, b, x),
+        13 | 17 | 23 => on_real_walk(head, b, x),
         14 => on_take_held(head, a, b, x, y),
         18 => on_lookup(head, a, b, x, list),
         21 => on_two_lists(head, a, b),
