@@ -2,3 +2,4 @@
 pub mod Reporting
 pub mod TreeCalls
 pub mod LookupSaid
+pub mod TextbookSaid
