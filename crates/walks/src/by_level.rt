@@ -39,7 +39,7 @@ fn gather(scratch: &[u64], n: usize, level: u64, list: &mut [u32], at: usize) ->
 }
 
 // Stores the blocks visited by level, leaves first.
-pub fn order(scratch: &[u64], n: usize, levels: u64, list: &mut [u32])
+pub(crate) fn order(scratch: &[u64], n: usize, levels: u64, list: &mut [u32])
     requires { ⌜ (n ≤ length (now scratch)) × (n ≤ length (now list)) ⌝ }
     ensures { λ _. ⌜ now (list .exit) ≡ withBytes (now (list .entry)) 0 (byLevel levels (seenOf (take n (now (scratch .entry))))) ⌝ }
 {
