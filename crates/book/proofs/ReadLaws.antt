@@ -11,6 +11,8 @@ use Rattle.blocks.specs.declared.geometry.Geometry.{Geometry}
 use Rattle.blocks.specs.declared.kind.TreeKind.{TreeKind}
 use Rattle.blocks.specs.Geometry.{geometryOk}
 use Rattle.walks.specs.declared.visit.Count.{Count}
+use Rattle.walks.specs.declared.visit.Verdict.{Verdict}
+use Rattle.walks.specs.declared.visit.Verdict.the-variants.{Refused}
 use Rattle.walks.specs.declared.refusal.WalkRefusal.{WalkRefusal}
 use Rattle.walks.specs.Walk.{Visit, visitOf, Look, bad, good, Trace, Shape, blockIn, lookIn}
 use Rattle.walks.specs.Shapes.{shapeOf}
@@ -21,8 +23,6 @@ use Rattle.walks.proofs.WalkLaws.{step-good}
 use Rattle.walks.proofs.PathLaws.{due-next}
 use Rattle.walks.proofs.DescendLaws.{Looked, looked, due-below, walking-visit}
 use Rattle.book.specs.declared.subtree.Limits.{Limits}
-use Rattle.book.specs.declared.subtree.Subtree.{Subtree}
-use Rattle.book.specs.declared.subtree.Subtree.the-variants.{Refused}
 use Rattle.book.specs.inner.Subtree.{Reached}
 
 -- ---- the measure
@@ -101,8 +101,8 @@ child-next s image node level i b h e =
     ∙ ap (λ (x : ℕ). visitOf x (level - 1) ∷ dueIn every s image level node (i + 1)) (sym e)
 
 -- a refusal ends the walk, whatever was due later
-pub ended : (look : Visit → Look) (l : Limits) (room room′ w : ℕ) (total : Trace) (out₀ scratch out : List ℕ) (r : Subtree) (f : WalkRefusal) (n : ℕ) (later later′ : List Visit)
-    → r ≡ Refused f n → Reached look l room w total out₀ scratch out r later → Reached look l room′ w total out₀ scratch out r later′
-ended look l room room′ w total out₀ scratch out r f n later later′ e h =
-    subst (λ (x : Subtree). Reached look l room′ w total out₀ scratch out x later′) (sym e)
-    (subst (λ (x : Subtree). Reached look l room w total out₀ scratch out x later) e h)
+pub ended : (look : Visit → Look) (l : Limits) (room room′ w : ℕ) (total : Trace) (out₀ scratch out : List ℕ) (v : Verdict) (f : WalkRefusal) (c : Count) (later later′ : List Visit)
+    → v ≡ Refused f → Reached look l room w total out₀ scratch out v c later → Reached look l room′ w total out₀ scratch out v c later′
+ended look l room room′ w total out₀ scratch out v f c later later′ e h =
+    subst (λ (x : Verdict). Reached look l room′ w total out₀ scratch out x c later′) (sym e)
+    (subst (λ (x : Verdict). Reached look l room w total out₀ scratch out x c later) e h)

@@ -19,7 +19,7 @@ use walks::path::fan;
 use walks::path::first_pointer;
 use walks::refusal::WalkRefusal;
 use walks::visit::Count;
-use walks::visit::Step;
+use walks::visit::Verdict;
 use walks::visit::visit;
 
 // How far a walk may go: its visits, and the blocks that its list takes.
@@ -28,10 +28,10 @@ pub(crate) struct Limits {
     pub(crate) blocks: usize,
 }
 
-// What the walk of a block, and of all below it, comes to: the counts after it, or the refusal that ends the walk, after so many visits.
-pub(crate) enum Subtree {
-    Read(Count),
-    Refused { refusal: WalkRefusal, visits: usize },
+// The walk of a block, and of all below it: what became of it, and the counts after it. The visits of one that is refused are the blocks that passed 13.
+pub(crate) struct Subtree {
+    pub(crate) count: Count,
+    pub(crate) verdict: Verdict,
 }
 
 // Reads a block that is due, and then its children: 13 before anything else of it, then the visit's 14, 3 to 10 and 15.
@@ -54,25 +54,31 @@ pub(crate) fn read_block(
 {
     let visits = c.visits;
     if limits.visits <= visits {
-        return Subtree::Refused {
-            refusal: WalkRefusal::Visits,
-            visits,
+        return Subtree {
+            count: c,
+            verdict: Verdict::Refused(WalkRefusal::Visits),
         };
     }
     let step = visit(g, kind, image, block, level, scratch, out, limits.blocks, c);
-    match step {
-        Step::Stop(refusal) => Subtree::Refused {
-            refusal,
+    let verdict = step.verdict;
+    if let Verdict::Refused(refusal) = verdict {
+        let count = Count {
             visits: visits + 1,
-        },
-        Step::Next(seen) => {
-            let count = seen.count;
-            if level == 0 {
-                return Subtree::Read(count);
-            }
-            read_children(g, kind, image, block, level, limits, scratch, out, count)
-        }
+            bytes: c.bytes,
+        };
+        return Subtree {
+            count,
+            verdict: Verdict::Refused(refusal),
+        };
     }
+    let count = step.count;
+    if level == 0 {
+        return Subtree {
+            count,
+            verdict: Verdict::Read,
+        };
+    }
+    read_children(g, kind, image, block, level, limits, scratch, out, count)
 }
 
 // Reads the children of a node of that level from left to right, each with all below it, until one ends the walk.
@@ -101,11 +107,15 @@ fn read_children(
     while 0 < left {
         let b = child(g, kind, image, first, node, n - left);
         let below = read_block(g, kind, image, b, level - 1, limits, scratch, out, count);
-        let Subtree::Read(after) = below else {
+        let verdict = below.verdict;
+        let Verdict::Read = verdict else {
             return below;
         };
-        count = after;
+        count = below.count;
         left -= 1;
     }
-    Subtree::Read(count)
+    Subtree {
+        count,
+        verdict: Verdict::Read,
+    }
 }

@@ -11,7 +11,6 @@ ghost use Rattle.walks.specs.WalkAnswer.{WalkIs};
 ghost use Rattle.walks.specs.First.{Begun};
 ghost use Rattle.book.specs.Textbook.{textbookOf, lists, TextbookIs};
 use crate::subtree::Limits;
-use crate::subtree::Subtree;
 use crate::subtree::read_block;
 use blocks::geometry::AgBlock;
 use blocks::geometry::Geometry;
@@ -24,6 +23,7 @@ use walks::first::ask_first;
 use walks::first::limit_of;
 use walks::path::STACK_PLACES;
 use walks::visit::Count;
+use walks::visit::Verdict;
 use walks::walk::Walked;
 
 // The walk, once 1, 11 and 12 are asked.
@@ -52,14 +52,16 @@ fn read_tree(
     };
     let level = (levels - 1) as u16;
     let tree = read_block(g, kind, image, root, level, limits, scratch, out, c);
-    match tree {
-        Subtree::Refused { refusal, visits } => {
+    let verdict = tree.verdict;
+    let visits = tree.count.visits;
+    match verdict {
+        Verdict::Refused(refusal) => {
             wipe(scratch, blocks, out);
             Walked::Refused { refusal, visits }
         }
-        Subtree::Read(count) => {
-            finish(count.visits, levels as u64, scratch, blocks);
-            read_all(kind, count)
+        Verdict::Read => {
+            finish(visits, levels as u64, scratch, blocks);
+            read_all(kind, tree.count)
         }
     }
 }

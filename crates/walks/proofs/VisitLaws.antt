@@ -11,9 +11,11 @@ use Rattle.codec.specs.Question.{Values, Outcome, refused}
 use Rattle.codec.proofs.Stores.{bytesAt-is}
 use Rattle.walks.specs.declared.visit.Count.{Count}
 use Rattle.walks.specs.declared.visit.Step.{Step}
-use Rattle.walks.specs.declared.visit.Step.the-variants.{Next, Stop}
+use Rattle.walks.specs.declared.visit.Siblings.{Siblings}
+use Rattle.walks.specs.declared.visit.Verdict.{Verdict}
+use Rattle.walks.specs.declared.visit.Verdict.the-variants.{Read, Refused}
 use Rattle.walks.specs.Walk.{Visit, visitOf, Look, bad, good, blockIn}
-use Rattle.walks.specs.OneVisit.{stepOutcome, Beside, stepOf, onward, Wrote}
+use Rattle.walks.specs.OneVisit.{verdictOutcome, stepOutcome, besideBy, Beside, stepOf, onward, Wrote}
 use Rattle.walks.proofs.PathLaws.{field}
 
 -- the part of the image that the code takes is a leaf's records
@@ -27,8 +29,11 @@ leaf-part image block size body header n r w e f h =
 
 -- a refused visit hands no siblings back
 pub beside-refused : (r : Step) (n : ℕ) (x : Values) (left right : ℕ) → stepOutcome r ≡ refused n x → Beside r left right
-beside-refused (Next s) n x left right e = let z : _≡_ {A = ℕ} 0 1 = cc in absurd (omega arith)
-beside-refused (Stop w) n x left right e = tt
+beside-refused r n x left right e = go (r .verdict) (r .count) (r .siblings) e
+  where
+    go : (v : Verdict) (c : Count) (s : Siblings) → verdictOutcome v c ≡ refused n x → besideBy v s left right
+    go Read c s f = let z : _≡_ {A = ℕ} 0 1 = cc in absurd (omega arith)
+    go (Refused w) c s f = tt
 
 step-node : (places room : ℕ) (c : Count) (below : List Visit) (bytes : List ℕ) → stepOf places room c (good [] bytes) ≡ stepOf places room c (good below bytes)
 unfolding stepOf

@@ -9,8 +9,10 @@ use lib.Dec.{ltb, leb}
 use Rattle.codec.specs.Bytes.{withBytes}
 use Rattle.codec.specs.Question.{Outcome, done, refused, ask, answer}
 use Rattle.walks.specs.declared.visit.Count.{Count}
+use Rattle.walks.specs.declared.visit.Siblings.{Siblings}
 use Rattle.walks.specs.declared.visit.Step.{Step}
-use Rattle.walks.specs.declared.visit.Step.the-variants.{Next, Stop}
+use Rattle.walks.specs.declared.visit.Verdict.{Verdict}
+use Rattle.walks.specs.declared.visit.Verdict.the-variants.{Read, Refused}
 use Rattle.walks.specs.Walk.{Visit, visitOf, Look, bad, good, bytesFound}
 use Rattle.walks.specs.WalkAnswer.{walkNumber, walkValues}
 
@@ -32,15 +34,21 @@ seenOf (p ∷ ps) = visitAt p ∷ seenOf ps
 abbrev pub nextOf : Count → List ℕ → Count
 nextOf c bytes = record { visits = c .visits + 1; bytes = c .bytes + length bytes }
 
--- a visit: the counts after it, or its refusal
+-- what became of a block: the counts after it, or its refusal
+abbrev pub verdictOutcome : Verdict → Count → Outcome Count
+verdictOutcome Read c = done c
+verdictOutcome (Refused r) c = refused (walkNumber r) (walkValues r)
+
 abbrev pub stepOutcome : Step → Outcome Count
-stepOutcome (Next s) = done (s .count)
-stepOutcome (Stop r) = refused (walkNumber r) (walkValues r)
+stepOutcome s = verdictOutcome (s .verdict) (s .count)
 
 -- the siblings that a visit hands back, where the block was read
+abbrev pub besideBy : Verdict → Siblings → ℕ → ℕ → Type 0
+besideBy Read s left right = (s .left ≡ left) × (s .right ≡ right)
+besideBy (Refused r) s left right = Unit {0}
+
 abbrev pub Beside : Step → ℕ → ℕ → Type 0
-Beside (Next s) left right = (s .siblings .left ≡ left) × (s .siblings .right ≡ right)
-Beside (Stop r) left right = Unit {0}
+Beside s left right = besideBy (s .verdict) (s .siblings) left right
 
 -- the counts after a look at a block, or its refusal: 15 asks about the places of the block list and the bytes of the record list
 unfoldable pub stepOf : ℕ → ℕ → Count → Look → Outcome Count

@@ -18,6 +18,7 @@ use crate::refusal::WalkRefusal;
 use blocks::check::Header;
 use blocks::geometry::AgBlock;
 use blocks::geometry::Geometry;
+use blocks::geometry::NULL_AGBLOCK;
 use blocks::kind::TreeKind;
 use codec::copy::copy;
 
@@ -33,16 +34,18 @@ pub struct Siblings {
     pub right: u32,
 }
 
-// A block that was read: the counts after it, and its siblings.
-pub struct Seen {
-    pub count: Count,
-    pub siblings: Siblings,
+// What became of a block that was due: it was read, or its refusal ends the walk.
+pub enum Verdict {
+    Read,
+    Refused(WalkRefusal),
 }
 
-// What a visit comes to: the block read, or the refusal that ends the walk.
-pub enum Step {
-    Next(Seen),
-    Stop(WalkRefusal),
+// A visit: what became of the block, the counts after it and its siblings. The counts of a block that is refused are those before it. They stand beside the
+// verdict, and not inside it, where a refusal would share their memory and the compiler would read them back by parts.
+pub struct Step {
+    pub count: Count,
+    pub siblings: Siblings,
+    pub verdict: Verdict,
 }
 
 // A block that passed the check: 15, then its visit is noted in one place of the level scratch and its records, if it is a leaf, go to the record list.
@@ -65,10 +68,18 @@ fn enter(
     let at = c.bytes;
     let len = bytes.len();
     if places <= visits {
-        return Step::Stop(WalkRefusal::Full);
+        return Step {
+            count: c,
+            siblings,
+            verdict: Verdict::Refused(WalkRefusal::Full),
+        };
     }
     if out.len() - at < len {
-        return Step::Stop(WalkRefusal::Full);
+        return Step {
+            count: c,
+            siblings,
+            verdict: Verdict::Refused(WalkRefusal::Full),
+        };
     }
     copy(bytes, out, at);
     scratch[visits] = place;
@@ -76,7 +87,11 @@ fn enter(
         visits: visits + 1,
         bytes: at + len,
     };
-    Step::Next(Seen { count, siblings })
+    Step {
+        count,
+        siblings,
+        verdict: Verdict::Read,
+    }
 }
 
 // The siblings that a checked header names.
@@ -94,10 +109,24 @@ fn stop(answer: Looked, c: Count) -> Step
     ensures { λ r. ⌜ stepOutcome r ≡ mapOutcome (λ h. c) (lookedOutcome answer) ⌝ }
 {
     match answer {
-        Looked::Refused(refusal) => Step::Stop(refusal),
+        Looked::Refused(refusal) => {
+            let siblings = Siblings {
+                left: NULL_AGBLOCK,
+                right: NULL_AGBLOCK,
+            };
+            Step {
+                count: c,
+                siblings,
+                verdict: Verdict::Refused(refusal),
+            }
+        }
         Looked::Good(header) => {
             let siblings = siblings_of(header);
-            Step::Next(Seen { count: c, siblings })
+            Step {
+                count: c,
+                siblings,
+                verdict: Verdict::Read,
+            }
         }
     }
 }

@@ -29,7 +29,7 @@ use crate::path::first_pointer;
 use crate::path::open;
 use crate::refusal::WalkRefusal;
 use crate::visit::Count;
-use crate::visit::Step;
+use crate::visit::Verdict;
 use crate::visit::visit;
 use blocks::geometry::AgBlock;
 use blocks::geometry::Geometry;
@@ -106,14 +106,13 @@ fn descend(
             return refused(WalkRefusal::Visits, visits);
         }
         let step = visit(g, kind, image, block, level as u16, scratch, out, places, c);
-        match step {
-            Step::Stop(refusal) => return refused(refusal, visits + 1),
-            Step::Next(seen) => {
-                c = seen.count;
-                let at = level as usize;
-                linked = follow(&mut before, &mut named, linked, block, at, seen.siblings);
-            }
+        let verdict = step.verdict;
+        if let Verdict::Refused(refusal) = verdict {
+            return refused(refusal, visits + 1);
         }
+        c = step.count;
+        let at = level as usize;
+        linked = follow(&mut before, &mut named, linked, block, at, step.siblings);
         let low = open(stack, block, level);
         let next = advance(g, kind, image, first, stack, low, levels);
         let Next::Block { block: b, level: l } = next else {

@@ -9,15 +9,15 @@ use borrow.Author.Needs.{needs}
 use Rattle.blocks.specs.Tree.{recordLen}
 use Rattle.codec.specs.Question.{Outcome, done, refused}
 use Rattle.walks.specs.declared.visit.Count.{Count}
+use Rattle.walks.specs.declared.visit.Verdict.{Verdict}
 use Rattle.walks.specs.Walk.{Visit, visitOf, Look, Trace, lookIn}
 use Rattle.walks.specs.Shapes.{shapeOf}
 use Rattle.walks.specs.Path.{every, dueIn}
-use Rattle.walks.specs.OneVisit.{stepOutcome, stepOf, Fitting, Wrote}
+use Rattle.walks.specs.OneVisit.{verdictOutcome, stepOutcome, stepOf, Fitting, Wrote}
 use Rattle.walks.specs.Underway.{Walking}
 use Rattle.walks.proofs.WalkLaws.{walking-spent, walking-stop}
 use Rattle.walks.proofs.PathLaws.{due-none}
-use Rattle.book.specs.declared.subtree.Subtree.{Subtree}
-use Rattle.book.specs.inner.Subtree.{Reached, Fits}
+use Rattle.book.specs.inner.Subtree.{Reached, FitsBy}
 use Rattle.book.proofs.ReadLaws.{less, look-is, fits-next, leaf-read, node-read, child-next, ended}
 use borrow.Fn.Kinds.{In}
 use borrow.Fn.PlainCycle.{Measures, is, falls, and}
@@ -119,11 +119,11 @@ read-block-returns t c = (λ total o later k. walking-spent k _ later refl (omeg
 read-block-visit-requires : (t : ℕ) → read-block-lts.Need-visit-requires (block-knows t) (read-block-at t) read-block.Post
 read-block-visit-requires t c κs = search needs
 
-read-block-enum-known-step : (t : ℕ) → read-block-lts.Need-enum-known-step (block-knows t) (read-block-at t) read-block.Post
-read-block-enum-known-step t c = search needs
+read-block-enum-known-verdict : (t : ℕ) → read-block-lts.Need-enum-known-verdict (block-knows t) (read-block-at t) read-block.Post
+read-block-enum-known-verdict t c = search needs
 
-read-block-enum-known-step-2 : (t : ℕ) → read-block-lts.Need-enum-known-step-2 (block-knows t) (read-block-at t) read-block.Post
-read-block-enum-known-step-2 t c = search needs
+read-block-enum-told : (t : ℕ) → read-block-lts.Need-enum-told (block-knows t) (read-block-at t) read-block.Post
+read-block-enum-told t c = search needs
 
 read-block-same-length : (t : ℕ) → read-block-lts.Need-same-length (block-knows t) (read-block-at t) read-block.Post
 read-block-same-length t c = search needs
@@ -131,44 +131,11 @@ read-block-same-length t c = search needs
 read-block-same-length-2 : (t : ℕ) → read-block-lts.Need-same-length-2 (block-knows t) (read-block-at t) read-block.Post
 read-block-same-length-2 t c = search needs
 
-read-block-returns-2 : (t : ℕ) → read-block-lts.Need-returns-2 (block-knows t) (read-block-at t) read-block.Post
-read-block-returns-2 t c =
-    let v = c .before .before .before .before .before .before .before .before .before in
-    let s = asked t v in
-    let a = s .args in
-    let n = c .before .before .before .step2 .given .0 .0 .count in
-    let told = ap stepOutcome (c .before .before .before .step2 .given .1) in (
-      λ total o later k.
-          leaf-read (a .g) (a .kind) (now (a .image)) (a .block) (a .level) (a .limits .blocks) (length (now (a .out))) (a .c) n (stepped t v n told) later _ _ k
-          (v .before .before .before .if1 .left) (s .fits .block .fits) (wrote t v n told) (s .pre .1 .0) (c .if2 .taken),
-      fits t v n told,
-    )
-
-read-block-add-t22 : (t : ℕ) → read-block-lts.Need-add-t22 (block-knows t) (read-block-at t) read-block.Post
-read-block-add-t22 t c = search needs
-
-read-block-read-children-requires : (t : ℕ) → read-block-lts.Need-read-children-requires (block-knows t) (read-block-at t) read-block.Post
-read-block-read-children-requires t c κs =
-    let v = c .before .before .before .before .before .before .before .before .before .before .before in
-    let s = asked t v in
-    let a = s .args in
-    let n = c .before .before .before .before .before .step2 .given .0 .0 .count in
-    let told = ap stepOutcome (c .before .before .before .before .before .step2 .given .1) in
-    let up : 0 < a .level = pos-of-ne-zero (c .before .before .if2 .left) in
-    let l = look-is (a .g) (a .kind) (now (a .image)) (a .block) (a .level) (a .limits .blocks) (length (now (a .out))) (a .c) n (stepped t v n told) (s .pre .1 .0) in
-    (less (s .pre .0) (omega (arith, up)), ((s .pre .1 .0, omega (arith, up), l .inside), (l .most up, fits t v n told)))
-
 read-block-same-length-3 : (t : ℕ) → read-block-lts.Need-same-length-3 (block-knows t) (read-block-at t) read-block.Post
 read-block-same-length-3 t c = search needs
 
 read-block-same-length-4 : (t : ℕ) → read-block-lts.Need-same-length-4 (block-knows t) (read-block-at t) read-block.Post
 read-block-same-length-4 t c = search needs
-
-read-block-returns-3 : (t : ℕ) → read-block-lts.Need-returns-3 (block-knows t) (read-block-at t) read-block.Post
-read-block-returns-3 t c =
-    let v = c .before .before .before .before .before .before .before in
-    let told = ap stepOutcome (c .before .step .given .1) in
-    (λ total o later k. walking-stop k _ later refl (v .before .before .before .if1 .left) _ _ (sym (v .visit .ensures .0) ∙ told), tt)
 
 read-block-same-length-5 : (t : ℕ) → read-block-lts.Need-same-length-5 (block-knows t) (read-block-at t) read-block.Post
 read-block-same-length-5 t c = search needs
@@ -176,19 +143,55 @@ read-block-same-length-5 t c = search needs
 read-block-same-length-6 : (t : ℕ) → read-block-lts.Need-same-length-6 (block-knows t) (read-block-at t) read-block.Post
 read-block-same-length-6 t c = search needs
 
+-- it is refused
+read-block-returns-2 : (t : ℕ) → read-block-lts.Need-returns-2 (block-knows t) (read-block-at t) read-block.Post
+read-block-returns-2 t c =
+    let v = c .before .before .before .before .before .before .before in
+    let told = ap (λ (x : Verdict). verdictOutcome x (v .visit .result .count)) (c .before .verdict .given .1) in
+    (λ total o later k. walking-stop k _ later refl (v .before .before .before .if1 .left) _ _ (sym (v .visit .ensures .0) ∙ told), tt)
+
+read-block-add-t23 : (t : ℕ) → read-block-lts.Need-add-t23 (block-knows t) (read-block-at t) read-block.Post
+read-block-add-t23 t c = search needs
+
+-- it is a leaf
+read-block-returns-3 : (t : ℕ) → read-block-lts.Need-returns-3 (block-knows t) (read-block-at t) read-block.Post
+read-block-returns-3 t c =
+    let v = c .before .before .before .before .before .before .before .before in
+    let s = asked t v in
+    let a = s .args in
+    let n = v .visit .result .count in
+    let told = ap (λ (x : Verdict). verdictOutcome x n) (c .before .before .enum-told .given .1) in (
+      λ total o later k.
+          leaf-read (a .g) (a .kind) (now (a .image)) (a .block) (a .level) (a .limits .blocks) (length (now (a .out))) (a .c) n (stepped t v n told) later _ _ k
+          (v .before .before .before .if1 .left) (s .fits .block .fits) (wrote t v n told) (s .pre .1 .0) (c .if2 .taken),
+      fits t v n told,
+    )
+
+-- it is a node
+read-block-read-children-requires : (t : ℕ) → read-block-lts.Need-read-children-requires (block-knows t) (read-block-at t) read-block.Post
+read-block-read-children-requires t c κs =
+    let v = c .before .before .before .before .before .before .before .before .before .before in
+    let s = asked t v in
+    let a = s .args in
+    let n = v .visit .result .count in
+    let told = ap (λ (x : Verdict). verdictOutcome x n) (c .before .before .before .before .enum-told .given .1) in
+    let up : 0 < a .level = pos-of-ne-zero (c .before .before .if2 .left) in
+    let l = look-is (a .g) (a .kind) (now (a .image)) (a .block) (a .level) (a .limits .blocks) (length (now (a .out))) (a .c) n (stepped t v n told) (s .pre .1 .0) in
+    (less (s .pre .0) (omega (arith, up)), ((s .pre .1 .0, omega (arith, up), l .inside), (l .most up, fits t v n told)))
+
 read-block-returns-4 : (t : ℕ) → read-block-lts.Need-returns-4 (block-knows t) (read-block-at t) read-block.Post
 read-block-returns-4 t c =
     let d = c .before .before .before .before in
-    let v = c .before .before .before .before .before .before .before .before .before .before .before .before .before .before .before .before in
+    let v = c .before .before .before .before .before .before .before .before .before .before .before .before .before .before .before in
     let s = asked t v in
     let a = s .args in
-    let n = c .before .before .before .before .before .before .before .before .before .before .step2 .given .0 .0 .count in
-    let told = ap stepOutcome (c .before .before .before .before .before .before .before .before .before .before .step2 .given .1) in
+    let n = v .visit .result .count in
+    let told = ap (λ (x : Verdict). verdictOutcome x n) (c .before .before .before .before .before .before .before .before .before .enum-told .given .1) in
     let up : 0 < a .level = pos-of-ne-zero (c .before .before .before .before .before .before .before .if2 .left) in
     let same = v .visit .kept .1 .1 .1 .1 .1 .1 .0 in
     let look = looks t v in (
       λ total o later k.
-          subst (λ (x : ℕ). Reached look (a .limits) x (recordLen (a .kind)) total o (d .read-children .last .1 .1 .1 .1 .1 .1 .0) (d .read-children .last .1 .1 .1 .1 .1 .1 .1 .0) (d .read-children .result) later) same
+          subst (λ (x : ℕ). Reached look (a .limits) x (recordLen (a .kind)) total o (d .read-children .last .1 .1 .1 .1 .1 .1 .0) (d .read-children .last .1 .1 .1 .1 .1 .1 .1 .0) (d .read-children .result .verdict) (d .read-children .result .count) later) same
           (d .read-children .ensures .0 total o later
           (subst (λ (x : ℕ). Walking look (a .limits .visits) (a .limits .blocks) x (recordLen (a .kind)) total o (v .visit .last .1 .1 .1 .1 .1 .0) (v .visit .last .1 .1 .1 .1 .1 .1 .0) (n .visits) (n .bytes)
           (dueIn every (shapeOf (a .g) (a .kind)) (now (a .image)) (a .level) (a .block) 0 ++ later)) (sym same)
@@ -265,11 +268,11 @@ read-children-read-block-requires t c κs =
     let a = s .args in
     (less (s .pre .0) (omega (arith, s .pre .1 .0 .1)), (s .pre .1 .0 .0, c .before .before .before .before .loop .inv .1))
 
-read-children-enum-known-below : (t : ℕ) → read-children-lts.Need-enum-known-below (children-knows t) (read-children-at t) read-children.Post read-children-Inv-loop read-children-μ-loop
-read-children-enum-known-below t c = search needs
-
 read-children-enum-told : (t : ℕ) → read-children-lts.Need-enum-told (children-knows t) (read-children-at t) read-children.Post read-children-Inv-loop read-children-μ-loop
 read-children-enum-told t c = search needs
+
+read-children-enum-told-2 : (t : ℕ) → read-children-lts.Need-enum-told-2 (children-knows t) (read-children-at t) read-children.Post read-children-Inv-loop read-children-μ-loop
+read-children-enum-told-2 t c = search needs
 
 read-children-same-length : (t : ℕ) → read-children-lts.Need-same-length (children-knows t) (read-children-at t) read-children.Post read-children-Inv-loop read-children-μ-loop
 read-children-same-length t c = let d = c .before .before .before .before .before .before in d .read-block .kept .1 .1 .1 .1 .1 .1 .0 ∙ d .before .before .before .before .before .loop .inv .2
@@ -281,7 +284,7 @@ read-children-same-length-2 t c = let d = c .before .before .before .before .bef
 stands : (t : ℕ) (d : Read-child t) (total : Trace) (o : List ℕ) (later : List Visit)
     → (let a = given t d .args in Walking (lookIn (shapeOf (a .g) (a .kind)) (now (a .image))) (a .limits .visits) (a .limits .blocks) (length (now (a .out))) (recordLen (a .kind)) total o (now (a .scratch)) (now (a .out)) (a .c .visits) (a .c .bytes) (due t d 0 ++ later))
     → (let a = given t d .args in let l = d .before .before .before .before .before .loop in
-    Reached (lookIn (shapeOf (a .g) (a .kind)) (now (a .image))) (a .limits) (length (l .out)) (recordLen (a .kind)) total o (d .read-block .last .1 .1 .1 .1 .1 .1 .0) (d .read-block .last .1 .1 .1 .1 .1 .1 .1 .0) (d .read-block .result) (due t d (this t d + 1) ++ later))
+    Reached (lookIn (shapeOf (a .g) (a .kind)) (now (a .image))) (a .limits) (length (l .out)) (recordLen (a .kind)) total o (d .read-block .last .1 .1 .1 .1 .1 .1 .0) (d .read-block .last .1 .1 .1 .1 .1 .1 .1 .0) (d .read-block .result .verdict) (d .read-block .result .count) (due t d (this t d + 1) ++ later))
 stands t d total o later k =
     let s = given t d in
     let a = s .args in
@@ -299,7 +302,7 @@ read-children-returns t c =
     let d = c .before .before .before .before .before .before in
     let a = given t d .args in (
       λ total o later k.
-          ended (lookIn (shapeOf (a .g) (a .kind)) (now (a .image))) (a .limits) _ (length (now (a .out))) (recordLen (a .kind)) total o _ _ (d .read-block .result) _ _ (due t d (this t d + 1) ++ later) later (c .enum-told .given .1)
+          ended (lookIn (shapeOf (a .g) (a .kind)) (now (a .image))) (a .limits) _ (length (now (a .out))) (recordLen (a .kind)) total o _ _ (d .read-block .result .verdict) _ (d .read-block .result .count) (due t d (this t d + 1) ++ later) later (c .enum-told2 .given .1)
           (stands t d total o later k),
       d .read-block .ensures .1,
     )
@@ -316,18 +319,18 @@ read-children-loop-again t c =
     let s = given t d in
     let a = s .args in
     let l = d .before .before .before .before .before .loop in
-    let n = c .before .below .given .0 .0 in
-    let told = c .before .below .given .1 in
+    let n = d .read-block .result .count in
+    let told = c .before .enum-told .given .1 in
     let look = lookIn (shapeOf (a .g) (a .kind)) (now (a .image)) in
     let next : this t d + 1 ≡ all t d - (l .left - 1) = omega (arith, l .inv .0, d .before .before .before .before .loop-test .taken) in (
       omega (arith, l .inv .0),
-      subst (λ (x : Subtree). Fits x (d .read-block .last .1 .1 .1 .1 .1 .1 .0) (d .read-block .last .1 .1 .1 .1 .1 .1 .1 .0) (a .limits .blocks)) told (d .read-block .ensures .1),
+      subst (λ (x : Verdict). FitsBy x n (d .read-block .last .1 .1 .1 .1 .1 .1 .0) (d .read-block .last .1 .1 .1 .1 .1 .1 .1 .0) (a .limits .blocks)) told (d .read-block .ensures .1),
       d .read-block .kept .1 .1 .1 .1 .1 .1 .0 ∙ l .inv .2,
       d .read-block .kept .1 .1 .1 .1 .1 .1 .1 .0 ∙ l .inv .3,
       λ total o later k.
           subst (λ (i : ℕ). Walking look (a .limits .visits) (a .limits .blocks) (length (now (a .out))) (recordLen (a .kind)) total o (d .read-block .last .1 .1 .1 .1 .1 .1 .0) (d .read-block .last .1 .1 .1 .1 .1 .1 .1 .0) (n .visits) (n .bytes) (due t d i ++ later)) next
           (subst (λ (x : ℕ). Walking look (a .limits .visits) (a .limits .blocks) x (recordLen (a .kind)) total o (d .read-block .last .1 .1 .1 .1 .1 .1 .0) (d .read-block .last .1 .1 .1 .1 .1 .1 .1 .0) (n .visits) (n .bytes) (due t d (this t d + 1) ++ later)) (l .inv .3)
-          (subst (λ (x : Subtree). Reached look (a .limits) (length (l .out)) (recordLen (a .kind)) total o (d .read-block .last .1 .1 .1 .1 .1 .1 .0) (d .read-block .last .1 .1 .1 .1 .1 .1 .1 .0) x (due t d (this t d + 1) ++ later)) told (stands t d total o later k))),
+          (subst (λ (x : Verdict). Reached look (a .limits) (length (l .out)) (recordLen (a .kind)) total o (d .read-block .last .1 .1 .1 .1 .1 .1 .0) (d .read-block .last .1 .1 .1 .1 .1 .1 .1 .0) x n (due t d (this t d + 1) ++ later)) told (stands t d total o later k))),
     )
 
 read-children-same-length-3 : (t : ℕ) → read-children-lts.Need-same-length-3 (children-knows t) (read-children-at t) read-children.Post read-children-Inv-loop read-children-μ-loop
@@ -353,16 +356,16 @@ pub +read-block+read-children-spec : {M : Type 1} → statement M
     read-block.Post
     (read-block-returns t)
     (read-block-visit-requires t)
-    (read-block-enum-known-step t)
-    (read-block-add-t22 t)
-    (read-block-enum-known-step-2 t)
+    (read-block-enum-known-verdict t)
+    (read-block-add-t23 t)
     (read-block-same-length t)
     (read-block-same-length-2 t)
     (read-block-returns-2 t)
-    (read-block-read-children-requires t)
+    (read-block-enum-told t)
     (read-block-same-length-3 t)
     (read-block-same-length-4 t)
     (read-block-returns-3 t)
+    (read-block-read-children-requires t)
     (read-block-same-length-5 t)
     (read-block-same-length-6 t)
     (read-block-returns-4 t))
@@ -378,8 +381,8 @@ pub +read-block+read-children-spec : {M : Type 1} → statement M
     (read-children-child-requires t)
     (read-children-sub-read-block t)
     (read-children-read-block-requires t)
-    (read-children-enum-known-below t)
     (read-children-enum-told t)
+    (read-children-enum-told-2 t)
     (read-children-same-length t)
     (read-children-same-length-2 t)
     (read-children-returns t)

@@ -13,7 +13,7 @@ use Rattle.walks.specs.WalkAnswer.{walkedReport}
 use Rattle.walks.proofs.WalkLaws.{walking-first, walking-ended, walking-seen, walking-read, end-whole}
 use Rattle.walks.proofs.CallLaws.{call-read, call-refused}
 use Rattle.book.specs.declared.subtree.Limits.{Limits}
-use Rattle.book.specs.declared.subtree.Subtree.{Subtree}
+use Rattle.walks.specs.declared.visit.Verdict.{Verdict}
 use Rattle.book.specs.inner.Subtree.{Reached}
 use Rattle.book.proofs.textbook.read_tree.Statement.{statement}
 use Rattle.book.proofs.textbook.read_tree.Tie as tie
@@ -32,13 +32,13 @@ total d =
     walkIn (shapeOf (a .g) (a .kind)) (now (a .image)) (a .root) (a .levels) (limits d .visits) (limits d .blocks) (length (now (a .out)))
 
 -- nothing is due later
-abbrev stands : tie.After-read-block → Subtree → Type 0
-stands d r =
+abbrev stands : tie.After-read-block → Verdict → Type 0
+stands d v =
     let a = given d .args in
     Reached (lookIn (shapeOf (a .g) (a .kind)) (now (a .image))) (limits d) (length (now (a .out))) (recordLen (a .kind)) (total d) (now (a .out))
-    (d .read-block .last .1 .1 .1 .1 .1 .1 .0) (d .read-block .last .1 .1 .1 .1 .1 .1 .1 .0) r []
+    (d .read-block .last .1 .1 .1 .1 .1 .1 .0) (d .read-block .last .1 .1 .1 .1 .1 .1 .1 .0) v (d .read-block .result .count) []
 
-reached : (d : tie.After-read-block) → stands d (d .read-block .result)
+reached : (d : tie.After-read-block) → stands d (d .read-block .result .verdict)
 unfolding walkIn
 reached d =
     let s = given d in
@@ -59,19 +59,19 @@ cast-level c = search needs
 read-block-requires : tie.Need-read-block-requires
 read-block-requires c κs = search needs
 
-enum-known-tree : tie.Need-enum-known-tree
-enum-known-tree c = search needs
+enum-known-verdict : tie.Need-enum-known-verdict
+enum-known-verdict c = search needs
 
 wipe-requires : tie.Need-wipe-requires
 wipe-requires c κs = search needs
 
-enum-known-tree-2 : tie.Need-enum-known-tree-2
-enum-known-tree-2 c = search needs
+enum-told : tie.Need-enum-told
+enum-told c = search needs
 
 finish-requires : tie.Need-finish-requires
 finish-requires c κs =
-    let d = c .before .before .before .before .before .before .before .before .before in
-    let k = subst (stands d) (c .before .before .before .tree2 .given .1) (reached d) in
+    let d = c .before .before .before .before .before .before .before .before in
+    let k = subst (stands d) (c .before .before .enum-told .given .1) (reached d) in
     (omega (arith, k .placed, k .noting), k .placed)
 
 read-all-requires : tie.Need-read-all-requires
@@ -89,12 +89,12 @@ same-length-3 c = search needs
 returns : tie.Need-returns
 returns c =
     let f = c .before .before .before .before .before .before in
-    let e = c .before .before .before .before .before .before .before .before .before .before .before .tree .given in
+    let e = c .before .before .before .before .before .before .before .before .before .before .before .verdict .given in
     let d = c .before .before .before .before .before .before .before .before .before .before .before .before .before .before .before .before .before in
     let a = given d .args in
     rw (← d .before .before .before .limit-of .ensures .0)
     (call-refused (recordLen (a .kind)) (a .levels) (total d) [] [] [] (now (a .scratch)) (d .read-block .last .1 .1 .1 .1 .1 .1 .0) _ (now (a .blocks)) _ (now (a .out)) (d .read-block .last .1 .1 .1 .1 .1 .1 .1 .0)
-    refl (d .read-block .kept .1 .1 .1 .1 .1 .1 .0) refl (f .wipe .ensures .0) _ (e .0 .0) (e .0 .1 .0) _ refl
+    refl (d .read-block .kept .1 .1 .1 .1 .1 .1 .0) refl (f .wipe .ensures .0) _ (e .0 .0) (d .read-block .result .count .visits) _ refl
     (subst (stands d) (e .1) (reached d) ∙ end-whole (recordLen (a .kind)) (total d))
     (d .read-block .kept .1 .1 .1 .1 .1 .1 .1 .0) (f .wipe .ensures .1) (f .wipe .ensures .2))
 
@@ -110,9 +110,9 @@ same-length-6 c = search needs
 returns-2 : tie.Need-returns-2
 returns-2 c =
     let f = c .before .before .before .before .before in
-    let d = c .before .before .before .before .before .before .before .before .before .before .before .before .before .before .before in
+    let d = c .before .before .before .before .before .before .before .before .before .before .before .before .before .before in
     let a = given d .args in
-    let k = subst (stands d) (c .before .before .before .before .before .before .before .before .before .tree2 .given .1) (reached d) in
+    let k = subst (stands d) (c .before .before .before .before .before .before .before .before .enum-told .given .1) (reached d) in
     rw (← d .before .before .before .limit-of .ensures .0)
     (call-read (recordLen (a .kind)) (a .levels) (total d) [] [] [] (now (a .scratch)) (d .read-block .last .1 .1 .1 .1 .1 .1 .0) _ (now (a .blocks)) _ (now (a .out)) (d .read-block .last .1 .1 .1 .1 .1 .1 .1 .0)
     refl (d .read-block .kept .1 .1 .1 .1 .1 .1 .0) refl (f .finish .ensures .1) (c .read-all .result) _ _ _ (c .read-all .ensures)
@@ -126,9 +126,9 @@ read-tree-spec =
     sub-level
     cast-level
     read-block-requires
-    enum-known-tree
+    enum-known-verdict
     wipe-requires
-    enum-known-tree-2
+    enum-told
     finish-requires
     read-all-requires
     same-length

@@ -31,11 +31,11 @@ mul-scratch c = search needs
 slice-write-scratch : tie.Need-slice-write-scratch
 slice-write-scratch c = search needs
 
+add-t16 : tie.Need-add-t16
+add-t16 c = search needs
+
 add-t15 : tie.Need-add-t15
 add-t15 c = search needs
-
-add-t14 : tie.Need-add-t14
-add-t14 c = search needs
 
 same-length : tie.Need-same-length
 same-length c = search needs
@@ -62,8 +62,8 @@ enter-spec =
     copy-requires
     mul-scratch
     slice-write-scratch
+    add-t16
     add-t15
-    add-t14
     same-length
     same-length-2
     returns-3)

@@ -9,8 +9,7 @@ use denote.Ref.{now}
 use Rattle.codec.specs.Question.{Outcome, done}
 use Rattle.blocks.specs.Tree.{recordLen}
 use Rattle.walks.specs.declared.visit.Count.{Count}
-use Rattle.walks.specs.declared.visit.Step.{Step}
-use Rattle.walks.specs.declared.visit.Step.the-variants as step
+use Rattle.walks.specs.declared.visit.Verdict.{Verdict}
 use Rattle.walks.specs.declared.walk.Walked.{Walked}
 use Rattle.walks.specs.declared.path.Next.{Next}
 use Rattle.walks.specs.declared.path.Next.the-variants.{Nothing}
@@ -20,7 +19,7 @@ use Rattle.walks.specs.WalkCall.{walkIn}
 use Rattle.walks.specs.WalkAnswer.{walkedReport}
 use Rattle.walks.specs.Links.{leftsibOf, rightsibOf}
 use Rattle.walks.specs.Path.{every, dueIn, pathOf, Opened, withPair, lowOf, Moved, Advanced}
-use Rattle.walks.specs.OneVisit.{stepOutcome, Beside, stepOf, Wrote}
+use Rattle.walks.specs.OneVisit.{verdictOutcome, stepOutcome, besideBy, stepOf, Wrote}
 use Rattle.walks.specs.Underway.{restOf, Walking}
 use Rattle.walks.specs.inner.WalkState.{left}
 use Rattle.walks.proofs.WalkLaws.{refused-is, finished-is, walking-spent, walking-stop, walking-ended, walking-seen, walking-read, step-count, end-whole}
@@ -53,17 +52,17 @@ stepped v =
     sym (v .visit .ensures .0 ∙ ap (λ (k : ℕ). stepOf (a .places) k (l .c) (lookIn (shapeOf (a .g) (a .kind)) (now (a .image)) (visitOf (l .block) (l .level)))) (l .inv .0 .size))
 
 -- after the visit: what is due is on the pairs
-turned : (d : tie.After-known-told2 Inv-loop μ-loop) → (let v = d .before .before .before .before .before .before .before in let l = v .before .before .before .before .loop in let s = v .before .before .before .before .before .before .before .before .before .before in let a = s .args in let n = d .before .step2 .given .0 .0 .count in let p = withPair (l .stack) (l .block) (l .level) in
+turned : (d : tie.After-enum-told Inv-loop μ-loop) → (let v = d .before .before .before .before .before .before in let l = v .before .before .before .before .loop in let s = v .before .before .before .before .before .before .before .before .before .before in let a = s .args in let n = v .visit .result .count in let p = withPair (l .stack) (l .block) (l .level) in
     Walking (lookIn (shapeOf (a .g) (a .kind)) (now (a .image))) (a .limit) (a .places) (length (now (a .out))) (recordLen (a .kind)) (total s) (now (a .out)) (v .visit .last .1 .1 .1 .1 .1 .0) (v .visit .last .1 .1 .1 .1 .1 .1 .0) (n .visits) (n .bytes)
     (pathOf (dueIn every (shapeOf (a .g) (a .kind)) (now (a .image))) p (lowOf (l .level)) (a .levels - lowOf (l .level)))
     × Opened (shapeOf (a .g) (a .kind)) (now (a .image)) p (lowOf (l .level)) (a .levels))
 turned d =
-    let v = d .before .before .before .before .before .before .before in
+    let v = d .before .before .before .before .before .before in
     let l = v .before .before .before .before .loop in
     let s = v .before .before .before .before .before .before .before .before .before .before in
     let a = s .args in
-    let n = d .before .step2 .given .0 .0 .count in
-    let told = ap stepOutcome (d .before .step2 .given .1) in
+    let n = v .visit .result .count in
+    let told = ap (λ (x : Verdict). verdictOutcome x n) (d .enum-told .given .1) in
     let look = lookIn (shapeOf (a .g) (a .kind)) (now (a .image)) in
     let w = visitOf (l .block) (l .level) in
     let wr : Wrote (done n) w (look w) (l .c) (l .scratch) (v .visit .last .1 .1 .1 .1 .1 .0) (l .out) (v .visit .last .1 .1 .1 .1 .1 .1 .0) =
@@ -72,35 +71,34 @@ turned d =
     (look w) refl (stepped v ∙ told) wr
 
 -- the pairs that advance is lent
-ready : (o : tie.After-open Inv-loop μ-loop) → (let v = o .before .before .before .before .before .before .before .before .before .before .before .before .before .before .before in let a = v .before .before .before .before .before .before .before .before .before .before .args in
+ready : (o : tie.After-open Inv-loop μ-loop) → (let v = o .before .before .before .before .before .before .before .before .before .before .before .before .before .before in let a = v .before .before .before .before .before .before .before .before .before .before .args in
     Opened (shapeOf (a .g) (a .kind)) (now (a .image)) (o .«open» .last .0) (o .«open» .result) (a .levels))
 ready o =
     let f = o .before .before .before .before in
     let d = f .before .before .before .before in
-    let v = d .before .before .before .before .before .before .before in
+    let v = d .before .before .before .before .before .before in
     let l = v .before .before .before .before .loop in
     let a = v .before .before .before .before .before .before .before .before .before .before .args in
     subst (λ (x : ℕ). Opened (shapeOf (a .g) (a .kind)) (now (a .image)) (o .«open» .last .0) x (a .levels)) (sym (o .«open» .ensures .0))
     (subst (λ (p : List ℕ). Opened (shapeOf (a .g) (a .kind)) (now (a .image)) p (lowOf (l .level)) (a .levels)) (sym (o .«open» .ensures .1)) (turned d .1))
 
 -- after it: the links of the visits to come are asked of what is held
-chained : (f : tie.After-follow Inv-loop μ-loop) → (let d = f .before .before .before .before in let v = d .before .before .before .before .before .before .before in let l = v .before .before .before .before .loop in let s = v .before .before .before .before .before .before .before .before .before .before in let a = s .args in let n = d .before .step2 .given .0 .0 .count in
+chained : (f : tie.After-follow Inv-loop μ-loop) → (let d = f .before .before .before .before in let v = d .before .before .before .before .before .before in let l = v .before .before .before .before .loop in let s = v .before .before .before .before .before .before .before .before .before .before in let a = s .args in let n = v .visit .result .count in
     Chained (leftsibOf (a .g .blocksize) (now (a .image))) (rightsibOf (a .g .blocksize) (now (a .image))) (a .levels) (visits (total s))
     (visits (restOf (lookIn (shapeOf (a .g) (a .kind)) (now (a .image))) (a .limit) (a .places) (length (now (a .out))) (n .visits) (n .bytes)
     (pathOf (dueIn every (shapeOf (a .g) (a .kind)) (now (a .image))) (withPair (l .stack) (l .block) (l .level)) (lowOf (l .level)) (a .levels - lowOf (l .level))))) (f .follow .last .0) (f .follow .last .1 .0) (f .follow .result))
 chained f =
     let d = f .before .before .before .before in
-    let v = d .before .before .before .before .before .before .before in
+    let v = d .before .before .before .before .before .before in
     let l = v .before .before .before .before .loop in
     let s = v .before .before .before .before .before .before .before .before .before .before in
     let a = s .args in
-    let n = d .before .step2 .given .0 .0 .count in
-    let told = ap stepOutcome (d .before .step2 .given .1) in
+    let n = v .visit .result .count in
+    let told = ap (λ (x : Verdict). verdictOutcome x n) (d .enum-told .given .1) in
     let image = now (a .image) in
     let left : (ℕ → ℕ) = leftsibOf (a .g .blocksize) image in
     let right : (ℕ → ℕ) = rightsibOf (a .g .blocksize) image in
-    let beside : Beside (step.Next (d .before .step2 .given .0 .0)) (left (l .block)) (right (l .block)) =
-    subst (λ (x : Step). Beside x (left (l .block)) (right (l .block))) (d .before .step2 .given .1) (v .visit .ensures .1 .1) in
+    let beside = subst (λ (x : Verdict). besideBy x (v .visit .result .siblings) (left (l .block)) (right (l .block))) (d .enum-told .given .1) (v .visit .ensures .1 .1) in
     let t = turn-visits (a .g) (a .kind) image (a .levels) (s .pre .0 .good) (a .limit) (a .places) (length (now (a .out))) (l .stack) (l .block) (l .level) (l .c) (l .inv .1) (l .inv .2) n (v .before .before .before .if1 .left)
     (lookIn (shapeOf (a .g) (a .kind)) image (visitOf (l .block) (l .level))) refl (stepped v ∙ told) in
     chained-step left right (a .levels) _ _ (visitOf (l .block) (l .level)) (l .before) _ (l .named) _ (l .linked) (f .follow .result) _ _ (l .inv .1 .few) (l .inv .2) (beside .0) (beside .1)
@@ -160,8 +158,8 @@ visit-requires c κs =
     let s = c .before .before .before .before .before .before .before .before .before in
     (s .pre .0 .good, record { noting = l .inv .0 .noting; stored = omega (arith, l .inv .0 .stored, l .inv .0 .size) })
 
-enum-known-step : tie.Need-enum-known-step Inv-loop μ-loop
-enum-known-step c = search needs
+enum-known-verdict : tie.Need-enum-known-verdict Inv-loop μ-loop
+enum-known-verdict c = search needs
 
 add-refused : tie.Need-add-refused Inv-loop μ-loop
 add-refused c = search needs
@@ -183,7 +181,7 @@ returns-2 c =
     let v = c .before .before .before .before .before .before .before .before in
     let l = v .before .before .before .before .loop in
     let s = v .before .before .before .before .before .before .before .before .before .before in
-    let told = ap stepOutcome (c .before .before .step .given .1) in
+    let told = ap (λ (x : Verdict). verdictOutcome x (v .visit .result .count)) (c .before .before .verdict .given .1) in
     let e = walking-stop (l .inv .0) _ _ refl (v .before .before .before .if1 .left) _ _ (stepped v ∙ told) ∙ end-whole (recordLen (s .args .kind)) (total s) in (
       ap walkedReport (c .refused2 .ensures .0) ∙ e,
       (
@@ -192,35 +190,35 @@ returns-2 c =
       ),
     )
 
-enum-known-step-2 : tie.Need-enum-known-step-2 Inv-loop μ-loop
-enum-known-step-2 c = search needs
+enum-told : tie.Need-enum-told Inv-loop μ-loop
+enum-told c = search needs
 
 cast-at : tie.Need-cast-at Inv-loop μ-loop
 cast-at c = search needs
 
 slice-aggregate-follow : tie.Need-slice-aggregate-follow Inv-loop μ-loop
-slice-aggregate-follow c = sym (c .before .before .before .before .before .before .before .before .before .before .before .before .before .loop .inv .6 .blocks)
+slice-aggregate-follow c = sym (c .before .before .before .before .before .before .before .before .before .before .before .before .loop .inv .6 .blocks)
 
 slice-aggregate-follow-2 : tie.Need-slice-aggregate-follow-2 Inv-loop μ-loop
-slice-aggregate-follow-2 c = sym (c .before .before .before .before .before .before .before .before .before .before .before .before .before .before .loop .inv .6 .names)
+slice-aggregate-follow-2 c = sym (c .before .before .before .before .before .before .before .before .before .before .before .before .before .loop .inv .6 .names)
 
 follow-requires : tie.Need-follow-requires Inv-loop μ-loop
 follow-requires c κs =
-    let l = c .before .before .before .before .before .before .before .before .before .before .before .before .before .before .loop in
+    let l = c .before .before .before .before .before .before .before .before .before .before .before .before .before .loop in
     let k = l .inv .6 in
     (omega (arith, k .blocks, l .inv .2, l .inv .1 .few), omega (arith, k .names, l .inv .2, l .inv .1 .few))
 
 open-requires : tie.Need-open-requires Inv-loop μ-loop
-open-requires c κs = let l = c .before .before .before .before .before .before .before .before .before .before .before .before .before .before .before .before .before .before .loop in (l .inv .1 .places, omega (arith, l .inv .2, l .inv .1 .few))
+open-requires c κs = let l = c .before .before .before .before .before .before .before .before .before .before .before .before .before .before .before .before .before .loop in (l .inv .1 .places, omega (arith, l .inv .2, l .inv .1 .few))
 
 advance-requires : tie.Need-advance-requires Inv-loop μ-loop
-advance-requires c κs = let o = c .before .before .before in ((o .before .before .before .before .before .before .before .before .before .before .before .before .before .before .before .before .before .before .before .before .before .before .before .before .before .pre .0 .good, ready o), o .before .before .before .before .before .before .before .before .before .before .before .before .before .before .before .before .before .before .before .before .first-pointer .ensures)
+advance-requires c κs = let o = c .before .before .before in ((o .before .before .before .before .before .before .before .before .before .before .before .before .before .before .before .before .before .before .before .before .before .before .before .before .pre .0 .good, ready o), o .before .before .before .before .before .before .before .before .before .before .before .before .before .before .before .before .before .before .before .first-pointer .ensures)
 
 enum-known-next : tie.Need-enum-known-next Inv-loop μ-loop
 enum-known-next c = search needs
 
-enum-told : tie.Need-enum-told Inv-loop μ-loop
-enum-told c = search needs
+enum-told-2 : tie.Need-enum-told-2 Inv-loop μ-loop
+enum-told-2 c = search needs
 
 read-all-requires : tie.Need-read-all-requires Inv-loop μ-loop
 read-all-requires c κs = search needs
@@ -231,19 +229,19 @@ slice-aggregate-all-linked c = sym (chained (c .before .before .before .before .
 all-linked-requires : tie.Need-all-linked-requires Inv-loop μ-loop
 all-linked-requires c κs =
     let f = c .before .before .before .before .before .before .before .before .before .before .before .before .before .before in
-    omega (arith, chained f .names, f .before .before .before .before .before .before .before .before .before .before .before .before .before .before .before .loop .inv .1 .few)
+    omega (arith, chained f .names, f .before .before .before .before .before .before .before .before .before .before .before .before .before .before .loop .inv .1 .few)
 
 same-length-7 : tie.Need-same-length-7 Inv-loop μ-loop
 same-length-7 c =
     let t = c .before .before .before .before .before .before .before in
     let o = t .before .before .before .before in
-    t .advance .kept .1 .1 .1 .1 .0 ∙ o .«open» .kept .0 ∙ o .before .before .before .before .before .before .before .before .before .before .before .before .before .before .before .before .before .before .before .loop .inv .4
+    t .advance .kept .1 .1 .1 .1 .0 ∙ o .«open» .kept .0 ∙ o .before .before .before .before .before .before .before .before .before .before .before .before .before .before .before .before .before .before .loop .inv .4
 
 same-length-8 : tie.Need-same-length-8 Inv-loop μ-loop
-same-length-8 c = let v = c .before .before .before .before .before .before .before .before .before .before .before .before .before .before .before .before .before .before .before .before .before .before .before .before .before .before in v .visit .kept .1 .1 .1 .1 .1 .0 ∙ v .before .before .before .before .loop .inv .5
+same-length-8 c = let v = c .before .before .before .before .before .before .before .before .before .before .before .before .before .before .before .before .before .before .before .before .before .before .before .before .before in v .visit .kept .1 .1 .1 .1 .1 .0 ∙ v .before .before .before .before .loop .inv .5
 
 same-length-9 : tie.Need-same-length-9 Inv-loop μ-loop
-same-length-9 c = let v = c .before .before .before .before .before .before .before .before .before .before .before .before .before .before .before .before .before .before .before .before .before .before .before .before .before .before in v .visit .kept .1 .1 .1 .1 .1 .1 .0 ∙ v .before .before .before .before .loop .inv .0 .size
+same-length-9 c = let v = c .before .before .before .before .before .before .before .before .before .before .before .before .before .before .before .before .before .before .before .before .before .before .before .before .before in v .visit .kept .1 .1 .1 .1 .1 .1 .0 ∙ v .before .before .before .before .loop .inv .0 .size
 
 returns-3 : tie.Need-returns-3 Inv-loop μ-loop
 returns-3 c =
@@ -251,18 +249,18 @@ returns-3 c =
     let o = t .before .before .before .before in
     let f = o .before .before .before .before in
     let d = f .before .before .before .before in
-    let v = d .before .before .before .before .before .before .before in
+    let v = d .before .before .before .before .before .before in
     let l = v .before .before .before .before .loop in
     let s = v .before .before .before .before .before .before .before .before .before .before in
     let a = s .args in
-    let n = d .before .step2 .given .0 .0 .count in
+    let n = v .visit .result .count in
     let leftsib : (ℕ → ℕ) = leftsibOf (a .g .blocksize) (now (a .image)) in
     let rightsib : (ℕ → ℕ) = rightsibOf (a .g .blocksize) (now (a .image)) in
     let sh : Shape = shapeOf (a .g) (a .kind) in
     let due : (ℕ → ℕ → ℕ → List Visit) = dueIn every sh (now (a .image)) in
     let w = turned d in
     let told : Advanced sh (now (a .image)) Nothing (o .«open» .result) (a .levels) (o .«open» .last .0) (t .advance .last .1 .1 .1 .1 .0) =
-    subst (λ (x : Next). Advanced sh (now (a .image)) x (o .«open» .result) (a .levels) (o .«open» .last .0) (t .advance .last .1 .1 .1 .1 .0)) (c .before .before .before .enum-told .given .1) (t .advance .ensures) in
+    subst (λ (x : Next). Advanced sh (now (a .image)) x (o .«open» .result) (a .levels) (o .«open» .last .0) (t .advance .last .1 .1 .1 .1 .0)) (c .before .before .before .enum-told2 .given .1) (t .advance .ensures) in
     let z : pathOf due (withPair (l .stack) (l .block) (l .level)) (lowOf (l .level)) (a .levels - lowOf (l .level)) ≡ [] =
     sym (ap₂ (λ (p : List ℕ) (x : ℕ). pathOf due p x (a .levels - x)) (o .«open» .ensures .1) (o .«open» .ensures .0))
     ∙ path-none-left every sh (now (a .image)) (o .«open» .last .0) (o .«open» .result) (a .levels) (ready o .within) (told .0) in
@@ -281,8 +279,8 @@ returns-3 c =
 loop-less : tie.Need-loop-less Inv-loop μ-loop
 loop-less c =
     let d = c .before .before .before .before .before .before .before .before .before .before .before .before .before .before .before .before .before in
-    let v = d .before .before .before .before .before .before .before in
-    let k = step-count _ _ _ (d .before .step2 .given .0 .0 .count) _ (stepped v ∙ ap stepOutcome (d .before .step2 .given .1)) in
+    let v = d .before .before .before .before .before .before in
+    let k = step-count _ _ _ (v .visit .result .count) _ (stepped v ∙ ap (λ (x : Verdict). verdictOutcome x (v .visit .result .count)) (d .enum-told .given .1)) in
     omega (arith, k, v .before .before .before .if1 .left)
 
 loop-again : tie.Need-loop-again Inv-loop μ-loop
@@ -291,11 +289,11 @@ loop-again c =
     let o = t .before .before .before .before in
     let f = o .before .before .before .before in
     let d = f .before .before .before .before in
-    let v = d .before .before .before .before .before .before .before in
+    let v = d .before .before .before .before .before .before in
     let l = v .before .before .before .before .loop in
     let s = v .before .before .before .before .before .before .before .before .before .before in
     let a = s .args in
-    let n = d .before .step2 .given .0 .0 .count in
+    let n = v .visit .result .count in
     let sh : Shape = shapeOf (a .g) (a .kind) in
     let due : (ℕ → ℕ → ℕ → List Visit) = dueIn every sh (now (a .image)) in
     let w = turned d in
@@ -332,14 +330,14 @@ descend-spec =
     returns
     cast-visit
     visit-requires
-    enum-known-step
+    enum-known-verdict
     add-refused
     refused-requires-2
     same-length-4
     same-length-5
     same-length-6
     returns-2
-    enum-known-step-2
+    enum-told
     cast-at
     slice-aggregate-follow
     slice-aggregate-follow-2
@@ -347,7 +345,7 @@ descend-spec =
     open-requires
     advance-requires
     enum-known-next
-    enum-told
+    enum-told-2
     read-all-requires
     slice-aggregate-all-linked
     all-linked-requires
