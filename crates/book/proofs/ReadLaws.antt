@@ -1,6 +1,6 @@
 -- Laws of the two routines of the textbook walk: what a block that was read leads to, and the children of a node from one to the next.
 -- Assumes nothing.
-use Prim.Native.Nat.{ℕ, _+_, _-_, _^_, _≤_, _<_}
+use Prim.Native.Nat.{ℕ, _+_, _-_, _^_, _<_}
 use native.Mathlib.Omega.{arith}
 use mathlib.Core.Path.{_≡_, refl, sym, ap, _∙_, subst}
 use mathlib.Core.Bool.{true}
@@ -17,7 +17,7 @@ use Rattle.walks.specs.declared.refusal.WalkRefusal.{WalkRefusal}
 use Rattle.walks.specs.Walk.{Visit, visitOf, Look, bad, good, Trace, Shape, blockIn, lookIn}
 use Rattle.walks.specs.Shapes.{shapeOf}
 use Rattle.walks.specs.Path.{childAt, fanOf, every, dueIn}
-use Rattle.walks.specs.OneVisit.{nextOf, stepOf, Fitting, Wrote}
+use Rattle.walks.specs.OneVisit.{stepOf, Fitting, Wrote}
 use Rattle.walks.specs.Underway.{Walking}
 use Rattle.walks.proofs.WalkLaws.{step-good}
 use Rattle.walks.proofs.PathLaws.{due-next}

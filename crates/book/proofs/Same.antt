@@ -6,14 +6,14 @@ use borrow.Author.Tests.{le-leb}
 use mathlib.Core.Path.{_≡_, refl, sym, ap, _∙_, subst}
 use mathlib.Core.Bool.{Bool, true, false}
 use mathlib.Core.List.{List, [], _∷_, _++_, append-assoc, append-nil}
-use Rattle.codec.specs.Question.{Outcome, done, answer}
+use Rattle.codec.specs.Question.{done, answer}
 use Rattle.blocks.specs.declared.geometry.Geometry.{Geometry}
 use Rattle.blocks.specs.declared.kind.TreeKind.{TreeKind}
 use Rattle.blocks.specs.Geometry.{geometryOk}
 use Rattle.blocks.specs.Tree.{recordLen}
 use Rattle.walks.specs.Walk.{Visit, visitOf, Look, bad, good, Trace, finished, spent, failed, met, after, run, fit, lookIn}
 use Rattle.walks.specs.Shapes.{shapeOf}
-use Rattle.walks.specs.WalkCall.{Lent, lent, stackPlaces, firstQuestions, walkIn, walkOf}
+use Rattle.walks.specs.WalkCall.{lent, stackPlaces, firstQuestions, walkIn, walkOf}
 use Rattle.walks.specs.LargerStack.{onStack}
 use Rattle.walks.proofs.StackLaws.{Below}
 use Rattle.walks.proofs.RunLaws.{run-none}

@@ -14,7 +14,7 @@ use Rattle.blocks.specs.Tree as tree
 use Rattle.blocks.specs.Check as check
 use Rattle.walks.specs.Walk as walk
 use Rattle.walks.specs.Walk.{visitOf, Trace, finished, failed, met}
-use Rattle.walks.specs.WalkCall.{Lent, walkIn, walkOf, reportOf}
+use Rattle.walks.specs.WalkCall.{Lent, walkOf, reportOf}
 use Rattle.walks.specs.LargerStack.{onStack, Alike}
 use Rattle.walks.specs.declared.walk.Walked.the-variants.{Read, Refused}
 use Rattle.walks.specs.declared.refusal.WalkRefusal.the-variants as why

@@ -96,7 +96,8 @@ fn read_children(
     requires { ⌜ (geometryOk g ≡ true) × (1 ≤ level) × ((node + 1) * g .blocksize ≤ length (now image)) ⌝ }
     requires { ⌜ fanOf (blockIn (g .blocksize) (now image) node) ≤ perNode (shapeOf g kind) ⌝ }
     requires { ⌜ Fitting (now scratch) (now out) (limits .blocks) c ⌝ }
-    ensures { λ r. ⌜ Reads (lookIn (shapeOf g kind) (now (image .entry))) limits (recordLen kind) (dueIn every (shapeOf g kind) (now (image .entry)) level node 0) c r
+    ensures { λ r. ⌜ Reads (lookIn (shapeOf g kind) (now (image .entry))) limits (recordLen kind)
+        (dueIn every (shapeOf g kind) (now (image .entry)) level node 0) c r
         (now (scratch .entry)) (now (scratch .exit)) (now (out .entry)) (now (out .exit)) ⌝ }
     ensures { λ r. ⌜ Fits r (now (scratch .exit)) (now (out .exit)) (limits .blocks) ⌝ }
 {

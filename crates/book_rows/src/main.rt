@@ -112,18 +112,15 @@ fn same32(a: &[u32], b: &[u32]) -> bool {
     true
 }
 
-fn same64(a: &[u64], b: &[u64]) -> bool {
-    if a.len() != b.len() {
-        return false;
+// A walk leaves its scratch zero, or as it was lent.
+fn same_scratch(a: &[u64], b: &[u64]) -> bool {
+    if all64(a, 0) {
+        return all64(b, 0);
     }
-    let mut i = 0;
-    while i < a.len() {
-        if a[i] != b[i] {
-            return false;
-        }
-        i += 1;
+    if all64(a, 0xEE) {
+        return all64(b, 0xEE);
     }
-    true
+    false
 }
 
 // Do two walks leave the same?
@@ -135,7 +132,7 @@ fn same_lists(
     records: &[u8],
     other_records: &[u8],
 ) -> bool {
-    if !same64(scratch, other_scratch) {
+    if !same_scratch(scratch, other_scratch) {
         return false;
     }
     if !same32(blocks, other_blocks) {
@@ -292,7 +289,7 @@ pub(crate) fn walk_both(
     }
 }
 
-// The places and bytes that a walk is lent, out of 111, 111 and 2,400.
+// The places and bytes that a walk is lent, out of 122, 122 and 2,400.
 struct Lengths {
     scratch: usize,
     blocks: usize,
@@ -308,23 +305,23 @@ fn lent(scratch: usize, blocks: usize, records: usize) -> Lengths {
 }
 
 fn plenty() -> Lengths {
-    lent(111, 111, 2400)
+    lent(122, 122, 2400)
 }
 
 fn walk_row(name: &[u8], asked: Asked, image: &[u8], l: Lengths) {
-    let mut scratch = [0xEEu64; 111];
-    let mut blocks = [0xEEu32; 111];
+    let mut scratch = [0xEEu64; 122];
+    let mut blocks = [0xEEu32; 122];
     let mut records = [0xEEu8; 2400];
-    let mut other_scratch = [0xEEu64; 111];
-    let mut other_blocks = [0xEEu32; 111];
+    let mut other_scratch = [0xEEu64; 122];
+    let mut other_blocks = [0xEEu32; 122];
     let mut other_records = [0xEEu8; 2400];
     let s = l.scratch;
     let b = l.blocks;
     let r = l.records;
-    if 111 < s {
+    if 122 < s {
         return;
     }
-    if 111 < b {
+    if 122 < b {
         return;
     }
     if 2400 < r {
@@ -428,33 +425,35 @@ fn damaged_row(name: &[u8], block: u32, at: usize, value: u8, again: bool) {
     walk_row(name, rmap_from(usual(), 4, 3), &image, lent(7, 7, 96));
 }
 
-// Ten times the same pointer.
-fn put_ten(b: &mut [u8], block: u32) {
-    let mut i: u32 = 0;
-    while i < 10 {
-        put_pointer(b, i, block);
-        i += 1;
-    }
-}
-
-fn folded_in(g: Geometry, image: &mut [u8], block: u32, level: u16, numrecs: u16, pointer: u32) {
-    let a = (block as usize) * 512;
-    let e = a + 512;
+fn put_count(g: Geometry, image: &mut [u8], block: u32, level: u16, numrecs: u16) {
+    let a = (block as usize) * 1024;
+    let e = a + 1024;
     if image.len() < e {
         return;
     }
-    put_ten(&mut image[a..e], pointer);
-    fresh(g, TreeKind::Rmap, block, level, numrecs, &mut image[a..e]);
+    fresh(
+        g,
+        TreeKind::Refcount,
+        block,
+        level,
+        numrecs,
+        &mut image[a..e],
+    );
 }
 
-// A walk of 1 + 10 + 100 visits over three blocks: the root points ten times to a node, and that ten times to a leaf of one record.
+// A walk of 122 visits over two blocks of the shared counts, of 1,024 bytes each: a full node, all of whose 121 pointers are to block 0, a leaf of one record.
 fn folded_row(name: &[u8], agblocks: u32) {
-    let g = geometry(5, 512, agblocks);
-    let mut image = [0u8; 1536];
-    folded_in(g, &mut image, 0, 0, 1, 0);
-    folded_in(g, &mut image, 1, 1, 10, 0);
-    folded_in(g, &mut image, 2, 2, 10, 1);
-    walk_row(name, rmap_from(g, 2, 3), &image, plenty());
+    let g = geometry(5, 1024, agblocks);
+    let mut image = [0u8; 2048];
+    put_count(g, &mut image, 0, 0, 1);
+    put_count(g, &mut image, 1, 1, 121);
+    let asked = Asked {
+        g,
+        kind: TreeKind::Refcount,
+        root: 1,
+        levels: 2,
+    };
+    walk_row(name, asked, &image, plenty());
 }
 
 fn read() {
@@ -507,8 +506,8 @@ fn refused_by_blocks() {
 fn refused_by_visits() {
     folded_row(b"folded, agblocks 0", 0);
     folded_row(b"folded, agblocks 64", 64);
-    folded_row(b"folded, agblocks 110", 110);
-    folded_row(b"folded, agblocks 111", 111);
+    folded_row(b"folded, agblocks 121", 121);
+    folded_row(b"folded, agblocks 122", 122);
 }
 
 fn main() {

@@ -205,7 +205,34 @@ fn numbers_as_due(list: &[u32], due: &[u8]) -> bool {
     true
 }
 
-// The walk of a case, by the call that asks about links too, by the textbook or by the one that does neither.
+// The textbook walk of a case.
+fn textbook_by(
+    head: &[u8],
+    image: &[u8],
+    scratch: &mut [u64],
+    blocks: &mut [u32],
+    records: &mut [u8],
+    said: &mut [u64; 4],
+) -> u32 {
+    kf_walk_textbook(
+        narrow(head, 10),
+        number(head, 11),
+        number(head, 12),
+        number(head, 13),
+        wide(head, 14),
+        wide(head, 16),
+        number(head, 18),
+        image,
+        number(head, 19),
+        number(head, 20),
+        scratch,
+        blocks,
+        records,
+        said,
+    )
+}
+
+// The walk of a case, by the textbook, by the call that asks about links too or by the one that does neither.
 fn walk_by(
     head: &[u8],
     image: &[u8],
@@ -225,6 +252,9 @@ fn walk_by(
     let root = number(head, 19);
     let levels = number(head, 20);
     let call = number(head, 0);
+    if call == 22 || call == 23 {
+        return textbook_by(head, image, scratch, blocks, records, said);
+    }
     if call == 16 || call == 17 {
         return kf_walk_linked(
             version,
@@ -238,24 +268,6 @@ fn walk_by(
             root,
             levels,
             stack,
-            scratch,
-            blocks,
-            records,
-            said,
-        );
-    }
-    if call == 22 || call == 23 {
-        return kf_walk_textbook(
-            version,
-            blocksize,
-            agblocks,
-            agno,
-            high,
-            low,
-            kind,
-            image,
-            root,
-            levels,
             scratch,
             blocks,
             records,

@@ -171,7 +171,7 @@ pub extern "C" fn kf_walk_linked(
     say(walked_answer(walked, yes_figure(linked)), said)
 }
 
-// The same walk as the course book has it: one routine reads a block, another its children from left to right. It is lent no stack, so 12 asks for the level
+// The same walk as textbooks have it: one routine reads a block, another its children from left to right. It is lent no stack, so 12 asks for the level
 // scratch alone; it says and leaves what `kf_walk` does on a stack of 18 places or more.
 #[no_mangle]
 pub extern "C" fn kf_walk_textbook(

@@ -40,8 +40,8 @@ pub enum Verdict {
     Refused(WalkRefusal),
 }
 
-// A visit: what became of the block, the counts after it and its siblings. The counts of a block that is refused are those before it. They stand beside the
-// verdict, and not inside it, where a refusal would share their memory and the compiler would read them back by parts.
+// A visit: what became of the block and, where it was read, the counts after it and its siblings. These stand beside the verdict and not inside it, where a
+// refusal would share their memory and the compiler would read them back by parts.
 pub struct Step {
     pub count: Count,
     pub siblings: Siblings,

@@ -1,7 +1,7 @@
 use borrow.Author.Needs.{needs}
 use native.Mathlib.Omega.{arith}
-use mathlib.Core.Path.{refl, ap, _∙_, subst}
-use mathlib.Core.List.{List, [], _∷_}
+use mathlib.Core.Path.{refl, _∙_, subst}
+use mathlib.Core.List.{[], _∷_}
 use Prim.Native.Nat.{_-_}
 use lib.ListN.{length}
 use denote.Ref.{now}
@@ -9,7 +9,6 @@ use Rattle.blocks.specs.Tree.{recordLen}
 use Rattle.walks.specs.Walk.{visitOf, Trace, lookIn}
 use Rattle.walks.specs.Shapes.{shapeOf}
 use Rattle.walks.specs.WalkCall.{walkIn}
-use Rattle.walks.specs.WalkAnswer.{walkedReport}
 use Rattle.walks.proofs.WalkLaws.{walking-first, walking-ended, walking-seen, walking-read, end-whole}
 use Rattle.walks.proofs.CallLaws.{call-read, call-refused}
 use Rattle.book.specs.declared.subtree.Limits.{Limits}
