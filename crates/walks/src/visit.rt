@@ -40,8 +40,8 @@ pub enum Verdict {
     Refused(WalkRefusal),
 }
 
-// A visit: what became of the block and, where it was read, the counts after it and its siblings. These stand beside the verdict and not inside it, where a
-// refusal would share their memory and the compiler would read them back by parts.
+// A visit: what became of the block and, where it was read, the counts after it and its siblings. These stand beside the verdict: with them inside it walks
+// took longer (docs/PERFORMANCE.md).
 pub struct Step {
     pub count: Count,
     pub siblings: Siblings,
