@@ -9,7 +9,7 @@ use Rattle.codec.specs.Question.{Values, none, two, Outcome, done, refused}
 use Rattle.codec.proofs.Meaning.{Failed, refused-means}
 use Rattle.blocks.specs.declared.geometry.Geometry.{Geometry}
 use Rattle.blocks.specs.declared.kind.TreeKind.{TreeKind}
-use Rattle.blocks.specs.declared.check.Field.the-variants.{Magic, Crc, Owner, Address, Level, Records}
+use Rattle.blocks.specs.declared.check.Field.the-variants.{Magic, Crc, Owner, Address, Sequence, Level, Records}
 use Rattle.blocks.specs.declared.check.BlockRefusal.{BlockRefusal}
 use Rattle.blocks.specs.declared.check.BlockRefusal.the-variants.{BadGeometry, Short, NoTree, Uuid, BadField}
 use Rattle.blocks.specs.declared.check.Header.{Header}
@@ -22,7 +22,7 @@ use Rattle.blocks.specs.Check.{blockQuestions, checkBlock}
 abbrev pub refusalOf : ℕ → Values → BlockRefusal
 refusalOf n none = cond (eqb n 1) BadGeometry (cond (eqb n 2) Short (cond (eqb n 3) NoTree Uuid))
 refusalOf n (two e f) =
-    BadField (cond (eqb n 4) (Magic e f) (cond (eqb n 5) (Crc e f) (cond (eqb n 7) (Owner e f) (cond (eqb n 8) (Address e f) (cond (eqb n 9) (Level e f) (Records e f))))))
+    BadField (cond (eqb n 4) (Magic e f) (cond (eqb n 5) (Crc e f) (cond (eqb n 7) (Owner e f) (cond (eqb n 8) (Address e f) (cond (eqb n 30) (Sequence e f) (cond (eqb n 9) (Level e f) (Records e f)))))))
 
 refusal-back : (f : BlockRefusal) → refusalOf (refusalNumber f) (refusalValues f) ≡ f
 refusal-back BadGeometry = refl
@@ -33,6 +33,7 @@ refusal-back (BadField (Magic e f)) = refl
 refusal-back (BadField (Crc e f)) = refl
 refusal-back (BadField (Owner e f)) = refl
 refusal-back (BadField (Address e f)) = refl
+refusal-back (BadField (Sequence e f)) = refl
 refusal-back (BadField (Level e f)) = refl
 refusal-back (BadField (Records e f)) = refl
 

@@ -18,7 +18,7 @@ use Rattle.codec.proofs.Overwrites.{isBytes-withBytes}
 use Rattle.blocks.specs.declared.geometry.Geometry.{Geometry}
 use Rattle.blocks.specs.declared.kind.TreeKind.{TreeKind}
 use Rattle.blocks.specs.declared.check.Header.{Header}
-use Rattle.blocks.specs.Offsets.{magicAt, levelAt, numrecsAt, leftSiblingAt, blknoAt, uuidAt, ownerAt, crcAt, v5HeaderLen}
+use Rattle.blocks.specs.Offsets.{magicAt, levelAt, numrecsAt, leftSiblingAt, blknoAt, lsnAt, uuidAt, ownerAt, crcAt, v5HeaderLen}
 use Rattle.blocks.specs.Tree.{headerLen}
 use Rattle.blocks.specs.Check.{blockCrc, identityQuestions, contentQuestions, blockQuestions, leftsibIn, rightsibIn, headerOf, checkBlock}
 use Rattle.blocks.specs.Stamp.{siblings, withCrc, relinked}
@@ -132,7 +132,7 @@ module _ (g : Geometry) (left right : ℕ) (b : List ℕ) (long : headerLen (g .
 
         asked-5 : eqb (g .version) 5 ≡ true → eqb (leOf (bytesAt b crcAt 4)) (blockCrc b) ≡ true → asked made ≡ asked b
         asked-5 v was =
-            rw (v, eq-eqb _ _ (crc-right v), was, relinked-length, head-kept magicAt 4 (omega arith), identity-kept uuidAt 16 (omega arith) (omega arith), identity-kept ownerAt 4 (omega arith) (omega arith), identity-kept blknoAt 8 (omega arith) (omega arith), head-kept levelAt 2 (omega arith), head-kept numrecsAt 2 (omega arith))
+            rw (v, eq-eqb _ _ (crc-right v), was, relinked-length, head-kept magicAt 4 (omega arith), identity-kept uuidAt 16 (omega arith) (omega arith), identity-kept ownerAt 4 (omega arith) (omega arith), identity-kept blknoAt 8 (omega arith) (omega arith), identity-kept lsnAt 8 (omega arith) (omega arith), head-kept levelAt 2 (omega arith), head-kept numrecsAt 2 (omega arith))
 
       -- each question but the check's own is as it was, so the block has as many records
       pub relinked-checks : (level : ℕ) (h : Header) → checkBlock g kind block level b ≡ done h

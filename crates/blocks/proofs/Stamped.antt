@@ -20,7 +20,7 @@ use Rattle.codec.proofs.Overwrites.{isBytes-leBytes, isBytes-withBytes, bytesAt
 use Rattle.codec.proofs.CrcRange.{crc32cOf-lt}
 use Rattle.blocks.specs.declared.geometry.Geometry.{Geometry}
 use Rattle.blocks.specs.declared.kind.TreeKind.{TreeKind}
-use Rattle.blocks.specs.Offsets.{magicAt, levelAt, numrecsAt, blknoAt, uuidAt, ownerAt, crcAt, v5HeaderLen}
+use Rattle.blocks.specs.Offsets.{magicAt, levelAt, numrecsAt, blknoAt, lsnAt, uuidAt, ownerAt, crcAt, v5HeaderLen}
 use Rattle.blocks.specs.Geometry.{geometryOk, linearOf, addressOf, Fits}
 use Rattle.blocks.specs.Tree.{headerLen, hasTree, magicOf, capacity}
 use Rattle.blocks.specs.Check.{blockCrc, leftsibIn, rightsibIn, headerSays, checkBlock}
@@ -62,6 +62,10 @@ module _ (g : Geometry) (kind : TreeKind) (block level numrecs left right : ℕ)
   unfolding bytesAt beBytes
   address-read h = beOf-beBytes-lt 8 (addressOf g (linearOf g block)) h
 
+  lsn-read : beOf (bytesAt (p ++ identityHead g block ++ t) lsnAt 8) ≡ g .«last_lsn»
+  unfolding bytesAt beBytes
+  lsn-read = beOf-beBytes-lt 8 (g .«last_lsn») (fits .lsn-fits)
+
   uuid-read : bytesAt (p ++ identityHead g block ++ t) uuidAt 16 ≡ g .«meta_uuid»
   unfolding bytesAt beBytes
   uuid-read =
@@ -70,7 +74,7 @@ module _ (g : Geometry) (kind : TreeKind) (block level numrecs left right : ℕ)
   owner-read : beOf (bytesAt (p ++ identityHead g block ++ t) ownerAt 4) ≡ g .agno
   unfolding beBytes
   owner-read =
-      let x : List ℕ = beBytes 8 (addressOf g (linearOf g block)) ++ beBytes 8 0 ++ g .«meta_uuid» in
+      let x : List ℕ = beBytes 8 (addressOf g (linearOf g block)) ++ beBytes 8 (g .«last_lsn») ++ g .«meta_uuid» in
       let q : List ℕ = p ++ x in
       let e : length q ≡ ownerAt = simp length-append (omega (arith, fits .uuid-long)) in
       ap (λ (l : List ℕ). beOf (bytesAt l ownerAt 4)) (ap (λ (l : List ℕ). l ++ t) (sym (append-assoc p x (beBytes 4 (g .agno)))) ∙ append-assoc q (beBytes 4 (g .agno)) t)
@@ -114,10 +118,11 @@ module _
         → bytesAt s uuidAt 16 ≡ g .«meta_uuid»
         → beOf (bytesAt s ownerAt 4) ≡ g .agno
         → beOf (bytesAt s blknoAt 8) ≡ addressOf g (linearOf g block)
+        → beOf (bytesAt s lsnAt 8) ≤ g .«last_lsn»
         → checkBlock g kind block level s ≡ done (headerSays g kind level numrecs left right len)
     unfolding checkBlock
-    passes-5 v crc uuid owner address =
-        rw (size, v, ok, le-leb _ _ long, tree, eq-eqb _ _ magic, eq-eqb _ _ crc, uuid, same-all (g .«meta_uuid»), eq-eqb _ _ owner, eq-eqb _ _ address, eq-eqb _ _ at, records, before, next, le-leb _ _ room)
+    passes-5 v crc uuid owner address known =
+        rw (size, v, ok, le-leb _ _ long, tree, eq-eqb _ _ magic, eq-eqb _ _ crc, uuid, same-all (g .«meta_uuid»), eq-eqb _ _ owner, eq-eqb _ _ address, le-leb _ _ known, eq-eqb _ _ at, records, before, next, le-leb _ _ room)
 
 -- ---- the stamp
 
@@ -194,9 +199,9 @@ module _
       identity-bytes : IsBytes (identityHead g block)
       identity-bytes =
           let address : ℕ = addressOf g (linearOf g block) in
-          isBytes-append (beBytes 8 address ++ beBytes 8 0 ++ g .«meta_uuid») (beBytes 4 (g .agno))
-          (isBytes-append (beBytes 8 address ++ beBytes 8 0) (g .«meta_uuid»)
-          (isBytes-append (beBytes 8 address) (beBytes 8 0) (isBytes-beBytes 8 address) (isBytes-beBytes 8 0))
+          isBytes-append (beBytes 8 address ++ beBytes 8 (g .«last_lsn») ++ g .«meta_uuid») (beBytes 4 (g .agno))
+          (isBytes-append (beBytes 8 address ++ beBytes 8 (g .«last_lsn»)) (g .«meta_uuid»)
+          (isBytes-append (beBytes 8 address) (beBytes 8 (g .«last_lsn»)) (isBytes-beBytes 8 address) (isBytes-beBytes 8 (g .«last_lsn»)))
           (fits .uuid-bytes))
           (isBytes-beBytes 4 (g .agno))
 
@@ -251,6 +256,7 @@ module _
                 (ap (λ (l : List ℕ). bytesAt l uuidAt 16) is ∙ uuid-read g kind block level numrecs left right t fits)
                 (ap (λ (l : List ℕ). beOf (bytesAt l ownerAt 4)) is ∙ owner-read g kind block level numrecs left right t fits)
                 (ap (λ (l : List ℕ). beOf (bytesAt l blknoAt 8)) is ∙ address-read g kind block level numrecs left right t fits (address-small g ok block number))
+                (omega (arith, ap (λ (l : List ℕ). beOf (bytesAt l lsnAt 8)) is ∙ lsn-read g kind block level numrecs left right t fits))
 
             passes : checkBlock g kind block level made ≡ done (headerSays g kind level numrecs left right (length b))
             passes = by-version (λ (l : List ℕ). checkBlock g kind block level l ≡ done (headerSays g kind level numrecs left right (length b))) on-5 on-4

@@ -1,4 +1,4 @@
--- The questions about one block, 1 to 10 of docs/QUESTIONS.md, in this order, and what the check comes to.
+-- The questions about one block, 1 to 8, 30, 9 and 10 of docs/QUESTIONS.md, in this order, and what the check comes to.
 -- Assumes nothing.
 use Prim.Native.Nat.{ℕ}
 use mathlib.Core.Bool.{Bool, true, false, cond}
@@ -11,7 +11,7 @@ use Rattle.codec.specs.Question.{Outcome, done, Question, ask, ask-equal, ask-m
 use Rattle.blocks.specs.declared.geometry.Geometry.{Geometry}
 use Rattle.blocks.specs.declared.kind.TreeKind.{TreeKind}
 use Rattle.blocks.specs.declared.check.Header.{Header}
-use Rattle.blocks.specs.Offsets.{magicAt, levelAt, numrecsAt, leftSiblingAt, rightSiblingAt, blknoAt, uuidAt, ownerAt, crcAt}
+use Rattle.blocks.specs.Offsets.{magicAt, levelAt, numrecsAt, leftSiblingAt, rightSiblingAt, blknoAt, lsnAt, uuidAt, ownerAt, crcAt}
 use Rattle.blocks.specs.Geometry.{geometryOk, linearOf, addressOf}
 use Rattle.blocks.specs.Tree.{headerLen, hasTree, magicOf, capacity}
 
@@ -26,13 +26,14 @@ same (x ∷ xs) (y ∷ ys) = cond (eqb x y) (same xs ys) false
 abbrev pub blockCrc : List ℕ → ℕ
 blockCrc b = crc32cOf (withBytes b crcAt (0 ∷ 0 ∷ 0 ∷ 0 ∷ []))
 
--- 5 to 8, on version 5 only: the check, the volume, the group, the address
+-- 5 to 8 and 30, on version 5 only: the check, the volume, the group, the address, and that the block is not newer than the volume's log
 abbrev pub identityQuestions : Geometry → ℕ → List ℕ → List Question
 identityQuestions g block b =
     ask-equal 5 (blockCrc b) (leOf (bytesAt b crcAt 4))
     ∷ ask 6 (same (bytesAt b uuidAt 16) (g .«meta_uuid»))
     ∷ ask-equal 7 (g .agno) (beOf (bytesAt b ownerAt 4))
     ∷ ask-equal 8 (addressOf g (linearOf g block)) (beOf (bytesAt b blknoAt 8))
+    ∷ ask-most 30 (g .«last_lsn») (beOf (bytesAt b lsnAt 8))
     ∷ []
 
 -- 9 and 10: the level, and that the records claimed fit
@@ -42,7 +43,7 @@ contentQuestions g kind level b =
     ∷ ask-most 10 (capacity kind (g .version) level (length b)) (beOf (bytesAt b numrecsAt 2))
     ∷ []
 
--- 3 to 10: what is asked of the block itself, once the geometry is good and the header is there
+-- 3 to 8, 30, 9 and 10: what is asked of the block itself, once the geometry is good and the header is there
 abbrev pub treeQuestions : Geometry → TreeKind → ℕ → ℕ → List ℕ → List Question
 treeQuestions g kind block level b =
     ask 3 (hasTree kind (g .version))
@@ -76,6 +77,6 @@ headerSays g kind level numrecs left right len =
 abbrev pub headerOf : Geometry → TreeKind → ℕ → List ℕ → Header
 headerOf g kind level b = headerSays g kind level (beOf (bytesAt b numrecsAt 2)) (leftsibIn b) (rightsibIn b) (length b)
 
--- what 1 to 10 come to
+-- what they come to
 unfoldable pub checkBlock : Geometry → TreeKind → ℕ → ℕ → List ℕ → Outcome Header
 checkBlock g kind block level b = answer (blockQuestions g kind block level b) (done (headerOf g kind level b))

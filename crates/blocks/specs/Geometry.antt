@@ -44,3 +44,9 @@ pub record Fits (g : Geometry) : Type 0 where
   pub agblocks-fits : g .agblocks < 2 ^ 32
   pub uuid-long : length (g .«meta_uuid») ≡ 16
   pub uuid-bytes : IsBytes (g .«meta_uuid»)
+  pub lsn-fits : g .«last_lsn» < 2 ^ 64
+
+-- the same group, where the volume's log has come to another sequence number
+abbrev pub withLsn : Geometry → ℕ → Geometry
+withLsn g n =
+    record { version = g .version; blocksize = g .blocksize; agblocks = g .agblocks; agno = g .agno; «meta_uuid» = g .«meta_uuid»; «last_lsn» = n }

@@ -3,7 +3,7 @@
 use Prim.Native.Nat.{ℕ}
 use Rattle.codec.specs.Question.{Values, none, two, Outcome, done, refused}
 use Rattle.blocks.specs.declared.check.Field.{Field}
-use Rattle.blocks.specs.declared.check.Field.the-variants.{Magic, Crc, Owner, Address, Level, Records}
+use Rattle.blocks.specs.declared.check.Field.the-variants.{Magic, Crc, Owner, Address, Sequence, Level, Records}
 use Rattle.blocks.specs.declared.check.BlockRefusal.{BlockRefusal}
 use Rattle.blocks.specs.declared.check.BlockRefusal.the-variants.{BadGeometry, Short, NoTree, Uuid, BadField}
 use Rattle.blocks.specs.declared.check.Header.{Header}
@@ -15,6 +15,7 @@ fieldNumber (Magic e f) = 4
 fieldNumber (Crc e f) = 5
 fieldNumber (Owner e f) = 7
 fieldNumber (Address e f) = 8
+fieldNumber (Sequence e f) = 30
 fieldNumber (Level e f) = 9
 fieldNumber (Records e f) = 10
 
@@ -23,6 +24,7 @@ fieldValues (Magic e f) = two e f
 fieldValues (Crc e f) = two e f
 fieldValues (Owner e f) = two e f
 fieldValues (Address e f) = two e f
+fieldValues (Sequence e f) = two e f
 fieldValues (Level e f) = two e f
 fieldValues (Records e f) = two e f
 

@@ -21,9 +21,9 @@ abbrev pub plainHead : TreeKind → ℕ → ℕ → ℕ → ℕ → ℕ → List
 plainHead kind version level numrecs left right =
     beBytes 4 (magicOf kind version) ++ beBytes 2 level ++ beBytes 2 numrecs ++ siblings left right
 
--- bytes 16 to 51: address, sequence number, UUID and group
+-- bytes 16 to 51: address, the volume's last sequence number, UUID and group
 abbrev pub identityHead : Geometry → ℕ → List ℕ
-identityHead g block = beBytes 8 (addressOf g (linearOf g block)) ++ beBytes 8 0 ++ g .«meta_uuid» ++ beBytes 4 (g .agno)
+identityHead g block = beBytes 8 (addressOf g (linearOf g block)) ++ beBytes 8 (g .«last_lsn») ++ g .«meta_uuid» ++ beBytes 4 (g .agno)
 
 -- the check put in
 abbrev pub withCrc : List ℕ → List ℕ

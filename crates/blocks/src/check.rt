@@ -1,4 +1,4 @@
-// The check of one block: questions 1 to 10 of docs/QUESTIONS.md, in this order.
+// The check of one block: questions 1 to 8, 30, 9 and 10 of docs/QUESTIONS.md, in this order.
 ghost use mathlib.Core.Path.{_≡_};
 ghost use mathlib.Core.Bool.{true};
 ghost use Prim.Native.Nat.{_≤_};
@@ -30,6 +30,7 @@ pub enum Field {
     Crc { expected: u64, found: u64 },
     Owner { expected: u64, found: u64 },
     Address { expected: u64, found: u64 },
+    Sequence { expected: u64, found: u64 },
     Level { expected: u64, found: u64 },
     Records { expected: u64, found: u64 },
 }
@@ -44,7 +45,7 @@ pub enum BlockRefusal {
     NoTree,
     // the block is of another volume: 6
     Uuid,
-    // 4, 5 and 7 to 10
+    // 4, 5, 7 to 10 and 30
     BadField(Field),
 }
 
@@ -58,6 +59,7 @@ impl Field {
             Field::Crc { expected, found } => Told::two(5, expected, found),
             Field::Owner { expected, found } => Told::two(7, expected, found),
             Field::Address { expected, found } => Told::two(8, expected, found),
+            Field::Sequence { expected, found } => Told::two(30, expected, found),
             Field::Level { expected, found } => Told::two(9, expected, found),
             Field::Records { expected, found } => Told::two(10, expected, found),
         }
@@ -131,7 +133,7 @@ fn check_contents(g: Geometry, kind: TreeKind, level: u16, b: &[u8]) -> Checked
     })
 }
 
-// Questions 5 to 8, on version 5, then 9 and 10.
+// Questions 5 to 8 and 30, on version 5, then 9 and 10.
 fn check_identity(g: Geometry, kind: TreeKind, block: AgBlock, level: u16, b: &[u8]) -> Checked
     requires { ⌜ (geometryOk g ≡ true) × (headerLen (g .version) ≤ length (now b)) × (v5HeaderLen ≤ length (now b)) ⌝ }
     ensures { λ r. ⌜ checkedOutcome r ≡ identityOutcome g kind (block .0) level (now (b .entry)) ⌝ }
@@ -164,10 +166,18 @@ fn check_identity(g: Geometry, kind: TreeKind, block: AgBlock, level: u16, b: &[
             found: stated,
         }));
     }
+    let last = g.last_lsn;
+    let lsn = be64(b, offsets::LSN);
+    if last < lsn {
+        return Checked::Refused(BlockRefusal::BadField(Field::Sequence {
+            expected: last,
+            found: lsn,
+        }));
+    }
     check_contents(g, kind, level, b)
 }
 
-// Questions 1 to 10 on a block of a tree: `block` is its number in the group, `level` the level it should have, `b` its bytes.
+// Questions 1 to 8, 30, 9 and 10 on a block of a tree: `block` is its number in the group, `level` the level it should have, `b` its bytes.
 pub fn check_block(g: Geometry, kind: TreeKind, block: AgBlock, level: u16, b: &[u8]) -> Checked
     ensures { λ r. ⌜ checkedOutcome r ≡ checkBlock g kind (block .0) level (now (b .entry)) ⌝ }
 {

@@ -48,7 +48,7 @@ fn stamp_plain(
     stamp_siblings(left, right, b);
 }
 
-// The fields that version 5 has before the check. The sequence number is 0.
+// The fields that version 5 has before the check.
 fn stamp_identity(g: Geometry, block: AgBlock, b: &mut [u8])
     requires { ⌜ (geometryOk g ≡ true) × (crcAt ≤ length (now b)) ⌝ }
     ensures { λ _. ⌜ now (b .exit) ≡ withBytes (now (b .entry)) blknoAt (identityHead g (block .0)) ⌝ }
@@ -56,8 +56,9 @@ fn stamp_identity(g: Geometry, block: AgBlock, b: &mut [u8])
     let address = block.linear(g).address(g).0;
     let uuid = g.meta_uuid;
     let agno = g.agno;
+    let last = g.last_lsn;
     put_be64(b, offsets::BLKNO, address);
-    put_be64(b, offsets::LSN, 0);
+    put_be64(b, offsets::LSN, last);
     copy(&uuid, b, offsets::UUID);
     put_be32(b, offsets::OWNER, agno);
 }

@@ -1,4 +1,4 @@
-// Blocks that pass the check, and blocks refused by each of questions 1 to 10: each is stamped, then damaged. A line has the answer's number
+// Blocks that pass the check, and blocks refused by each of questions 1 to 10 and 30: each is stamped, then damaged. A line has the answer's number
 // and, where there are two numbers, what was expected and what was found. `stdout` was worked out apart from this code.
 ghost use Prim.Native.Nat.{_≤_};
 ghost use lib.ListN.{length};
@@ -60,6 +60,7 @@ fn show_geometry(name: &[u8], version: u16, blocksize: u32, agno: u32, agblocks:
         agblocks: agblocks,
         agno: agno,
         meta_uuid: [0u8; 16],
+        last_lsn: 0,
     };
     let b = [0u8; 1];
     show(name, check_block(g, TreeKind::Rmap, AgBlock(0), 0, &b[..0]));

@@ -24,7 +24,7 @@ use Rattle.book.proofs.Same.{every-textbook, every-textbook-call}
 
 -- free space by block on version 4, whose blocks have no check: blocks of 512 bytes
 abbrev g : Geometry
-g = record { version = 4; blocksize = 512; agblocks = 0; agno = 0; «meta_uuid» = replicate 16 0 }
+g = record { version = 4; blocksize = 512; agblocks = 0; agno = 0; «meta_uuid» = replicate 16 0; «last_lsn» = 0 }
 
 -- a block of a level with so many records, no siblings, and these bytes after the header
 abbrev blockOf : ℕ → ℕ → List ℕ → List ℕ

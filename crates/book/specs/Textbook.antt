@@ -31,7 +31,7 @@ unfoldable pub readChildren : (ℕ → Visit → Trace) → ℕ → List Visit �
 readChildren block n [] = finished
 readChildren block n (v ∷ vs) = andThen (block n v) n (λ left. readChildren block left vs)
 
--- a block of a level: is a visit left (13)? Then the look at it (14, 3 to 10), and its children, one level below it; a leaf has none
+-- a block of a level: is a visit left (13)? Then the look at it (14, 3 to 8, 30, 9 and 10), and its children, one level below it; a leaf has none
 unfoldable pub readBlock : (Visit → Look) → (level : ℕ) → ℕ → Visit → Trace
 readBlock look zero zero v = spent
 readBlock look zero (suc n) v = after v (λ below. finished) (look v)

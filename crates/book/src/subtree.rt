@@ -34,7 +34,7 @@ pub(crate) struct Subtree {
     pub(crate) verdict: Verdict,
 }
 
-// Reads a block that is due, and then its children: 13 before anything else of it, then the visit's 14, 3 to 10 and 15.
+// Reads a block that is due, and then its children: 13 before anything else of it, then the visit's 14, 3 to 8, 30, 9, 10 and 15.
 pub(crate) fn read_block(
     g: Geometry,
     kind: TreeKind,

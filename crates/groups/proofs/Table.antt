@@ -31,7 +31,7 @@ use Rattle.lists.specs.Edits.{insertOutcome, removeOutcome, releaseOutcome, Fre
 
 -- a version 5 geometry of blocks of 4,096 bytes
 abbrev geometry : Geometry
-geometry = record { version = 5; blocksize = 4096; agblocks = 0; agno = 0; «meta_uuid» = replicate 16 0 }
+geometry = record { version = 5; blocksize = 4096; agblocks = 0; agno = 0; «meta_uuid» = replicate 16 0; «last_lsn» = 0 }
 
 -- the blocks of each level, leaves first
 abbrev plans : TreeKind → ℕ → Outcome (List ℕ)

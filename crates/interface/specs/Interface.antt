@@ -14,10 +14,10 @@ use Rattle.blocks.specs.declared.kind.TreeKind.the-variants as kinds
 
 -- ---- what is given
 
--- the geometry; the 16 bytes of the UUID are two big-endian numbers
-abbrev pub geometryOf : ℕ → ℕ → ℕ → ℕ → ℕ → ℕ → Geometry
-geometryOf version blocksize agblocks agno high low =
-    record { version = version; blocksize = blocksize; agblocks = agblocks; agno = agno; «meta_uuid» = beBytes 8 high ++ beBytes 8 low }
+-- the geometry; the 16 bytes of the UUID are two big-endian numbers, and the last sequence number is one more
+abbrev pub geometryOf : ℕ → ℕ → ℕ → ℕ → ℕ → ℕ → ℕ → Geometry
+geometryOf version blocksize agblocks agno high low last =
+    record { version = version; blocksize = blocksize; agblocks = agblocks; agno = agno; «meta_uuid» = beBytes 8 high ++ beBytes 8 low; «last_lsn» = last }
 
 -- 0 is the reverse map, 2 free space by block and 3 free space by size; 1, and any other number, the counts
 abbrev pub kindOf : ℕ → TreeKind

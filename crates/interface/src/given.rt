@@ -14,8 +14,9 @@ pub fn geometry(
     agno: u32,
     uuid_high: u64,
     uuid_low: u64,
+    last_lsn: u64,
 ) -> Geometry
-    ensures { λ r. ⌜ r ≡ geometryOf version blocksize agblocks agno «uuid_high» «uuid_low» ⌝ }
+    ensures { λ r. ⌜ r ≡ geometryOf version blocksize agblocks agno «uuid_high» «uuid_low» «last_lsn» ⌝ }
 {
     let mut uuid = [0u8; 16];
     put_be64(&mut uuid, 0, uuid_high);
@@ -26,6 +27,7 @@ pub fn geometry(
         agblocks: agblocks,
         agno: agno,
         meta_uuid: uuid,
+        last_lsn: last_lsn,
     }
 }
 

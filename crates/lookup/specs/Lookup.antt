@@ -59,7 +59,7 @@ abbrev pub without : (ℕ → Bool) → Look → Look
 without keep (bad n x) = bad n x
 without keep (good below bytes) = good (keptFrom keep 0 below) bytes
 
--- the walk's own look (14, 3 to 10), without them
+-- the walk's own look (14, 3 to 8, 30, 9 and 10), without them
 unfoldable pub lookAsked : List ℕ → Shape → List ℕ → Visit → Look
 lookAsked asked s image v = without (keeps asked s (blockIn (s .size) image (v .block))) (lookIn s image v)
 

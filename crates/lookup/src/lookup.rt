@@ -69,7 +69,7 @@ fn lookup_tree(
 
 // Looks up ascending block numbers in a reverse map: how many of the records read lie over each, into `answers`, in one descent from the root that skips
 // each child between whose low and high key's start none of the numbers lies. `image` is the group, block n at n times the block size. Questions 1,
-// 11, 12 (the stack alone) and 29; then, at each block, 13, 14 and 3 to 10. A lookup that is done leaves `stack` zero, and the answers past the numbers as
+// 11, 12 (the stack alone) and 29; then, at each block, 13, 14, 3 to 8, 30, 9 and 10. A lookup that is done leaves `stack` zero, and the answers past the numbers as
 // they were; 13 or a later question leaves both zero throughout; 1, 11, 12 and 29 touch nothing. What the answers are worth: `EveryLookup` of
 // specs/Claims.antt.
 pub fn lookup(

@@ -6,7 +6,7 @@ use walks::refusal::WalkRefusal;
 
 // The number of each case (docs/QUESTIONS.md) is `lookupNumber` of specs/Answer.antt.
 pub enum LookupRefusal {
-    // the walk's own: 1, 11 to 14, and 3 to 10
+    // the walk's own: 1, 11 to 14, 3 to 10 and 30
     Walk(WalkRefusal),
     // the numbers do not ascend strictly, or there are fewer places for answers: 29
     Asked,

@@ -67,7 +67,7 @@ planText (refused number values) = refusedLine number
 
 -- version 5, with agno and agblocks 0
 abbrev pub programGeometry : ℕ → Geometry
-programGeometry size = record { version = 5; blocksize = size; agblocks = 0; agno = 0; «meta_uuid» = replicate 16 0 }
+programGeometry size = record { version = 5; blocksize = size; agblocks = 0; agno = 0; «meta_uuid» = replicate 16 0; «last_lsn» = 0 }
 
 abbrev pub reply : Option Request → List ℕ
 reply (some r) = planText (planOutcome (programGeometry (r .blocksize)) (r .kind) (r .records))

@@ -114,6 +114,7 @@ pub fn respond(input: &[u8], out: &mut [u8]) -> usize
         agblocks: 0,
         agno: 0,
         meta_uuid: [0u8; 16],
+        last_lsn: 0,
     };
     put_plan(out, g, kind, records)
 }

@@ -16,10 +16,14 @@ use Rattle.blocks.specs.Stamp.{stamped, withCrc}
 abbrev pub sampleUuid : List ℕ
 sampleUuid = 16 ∷ 17 ∷ 18 ∷ 19 ∷ 20 ∷ 21 ∷ 22 ∷ 23 ∷ 24 ∷ 25 ∷ 26 ∷ 27 ∷ 28 ∷ 29 ∷ 30 ∷ 31 ∷ []
 
--- the group 3 of a volume with this UUID
+-- its last sequence number
+abbrev pub sampleLsn : ℕ
+sampleLsn = 0x2122232425262728
+
+-- the group 3 of a volume with both
 abbrev pub sampleGeometry : ℕ → ℕ → ℕ → Geometry
 sampleGeometry version blocksize agblocks =
-    record { version = version; blocksize = blocksize; agblocks = agblocks; agno = 3; «meta_uuid» = sampleUuid }
+    record { version = version; blocksize = blocksize; agblocks = agblocks; agno = 3; «meta_uuid» = sampleUuid; «last_lsn» = sampleLsn }
 
 -- stamped between two siblings, where the geometry is good, the version has such a tree and the header fits, and else as it was
 abbrev pub freshBetween : Geometry → TreeKind → ℕ → ℕ → ℕ → ℕ → ℕ → List ℕ → List ℕ

@@ -13,7 +13,7 @@ use blocks::stamp::stamp;
 use codec::crc::crc32c_with_zeroed_crc;
 use codec::endian::put_le32;
 
-// The group 3 of a volume whose UUID is the bytes 16 to 31.
+// The group 3 of a volume whose UUID is the bytes 16 to 31, and whose log ends at a number with no two bytes alike.
 pub fn geometry(version: u16, blocksize: u32, agblocks: u32) -> Geometry
     ensures { λ g. ⌜ g ≡ sampleGeometry version blocksize agblocks ⌝ }
 {
@@ -23,6 +23,7 @@ pub fn geometry(version: u16, blocksize: u32, agblocks: u32) -> Geometry
         agblocks,
         agno: 3,
         meta_uuid: *b"\x10\x11\x12\x13\x14\x15\x16\x17\x18\x19\x1A\x1B\x1C\x1D\x1E\x1F",
+        last_lsn: 0x2122232425262728,
     }
 }
 

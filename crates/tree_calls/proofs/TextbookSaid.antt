@@ -41,7 +41,7 @@ every-said-alike g kind image root levels stack stack′ scratch blocks out deep
 -- ---- an instance: a root outside an image of no block is refused by 14 after one visit, and zeros are left
 
 abbrev g : Geometry
-g = record { version = 5; blocksize = 512; agblocks = 0; agno = 0; «meta_uuid» = replicate 16 0 }
+g = record { version = 5; blocksize = 512; agblocks = 0; agno = 0; «meta_uuid» = replicate 16 0; «last_lsn» = 0 }
 
 outside-alike : SaidAlike 14 14 (0 ∷ 0 ∷ 1 ∷ 0 ∷ []) (0 ∷ 0 ∷ 1 ∷ 0 ∷ []) (0 ∷ []) (0 ∷ []) (0 ∷ []) (0 ∷ []) (0 ∷ []) (0 ∷ [])
 unfolding geometry.isVersion geometry.isBlockSize geometry.geometryOk call.walkIn call.reportOf walk.run walk.fit walk.lookIn walk.visits walk.records book.textbookIn book.readBlock

@@ -29,7 +29,7 @@ pub extern "C" fn kf_crc32c_singly(bytes: &[u8]) -> u32
     crc32c_singly(bytes)
 }
 
-// Questions 1 to 10 on a block: `block` is its number in the group, `level` the level it should have. The figures of a good block are its
+// Questions 1 to 8, 30, 9 and 10 on a block: `block` is its number in the group, `level` the level it should have. The figures of a good block are its
 // records, how many it could hold, and the blocks that it names before and after it on its level; of a refused one what was expected and what
 // was found.
 #[no_mangle]
@@ -40,16 +40,17 @@ pub extern "C" fn kf_check_block(
     agno: u32,
     uuid_high: u64,
     uuid_low: u64,
+    last_lsn: u64,
     kind: u32,
     block: u32,
     level: u16,
     bytes: &[u8],
     said: &mut [u64; 4],
 ) -> u32
-    ensures { λ r. ⌜ Says headerFigures (checkBlock (geometryOf version blocksize agblocks agno «uuid_high» «uuid_low») (kindOf kind)
+    ensures { λ r. ⌜ Says headerFigures (checkBlock (geometryOf version blocksize agblocks agno «uuid_high» «uuid_low» «last_lsn») (kindOf kind)
         block level (now (bytes .entry))) r (now (said .exit)) ⌝ }
 {
-    let g = geometry(version, blocksize, agblocks, agno, uuid_high, uuid_low);
+    let g = geometry(version, blocksize, agblocks, agno, uuid_high, uuid_low, last_lsn);
     let tree = tree_kind(kind);
     let checked = check_block(g, tree, AgBlock(block), level, bytes);
     say(checked_answer(checked), said)

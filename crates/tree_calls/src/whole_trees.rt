@@ -36,15 +36,16 @@ pub extern "C" fn kf_plan(
     agno: u32,
     uuid_high: u64,
     uuid_low: u64,
+    last_lsn: u64,
     kind: u32,
     records: u64,
     levels: &mut [u64; 9],
     said: &mut [u64; 4],
 ) -> u32
-    ensures { λ r. ⌜ PlanSays (planOutcome (geometryOf version blocksize agblocks agno «uuid_high» «uuid_low») (kindOf kind) records) r
+    ensures { λ r. ⌜ PlanSays (planOutcome (geometryOf version blocksize agblocks agno «uuid_high» «uuid_low» «last_lsn») (kindOf kind) records) r
         (now (said .exit)) (now (levels .entry)) (now (levels .exit)) ⌝ }
 {
-    let g = geometry(version, blocksize, agblocks, agno, uuid_high, uuid_low);
+    let g = geometry(version, blocksize, agblocks, agno, uuid_high, uuid_low, last_lsn);
     let tree = tree_kind(kind);
     let planned = plan(g, tree, records);
     let blocks = planned.blocks;
@@ -65,6 +66,7 @@ pub extern "C" fn kf_build(
     agno: u32,
     uuid_high: u64,
     uuid_low: u64,
+    last_lsn: u64,
     kind: u32,
     list: &[u8],
     numbers: &[u32],
@@ -72,11 +74,11 @@ pub extern "C" fn kf_build(
     said: &mut [u64; 4],
 ) -> u32
     ensures { λ r. ⌜ BuildSays
-        (buildOutcome (geometryOf version blocksize agblocks agno «uuid_high» «uuid_low») (kindOf kind)
+        (buildOutcome (geometryOf version blocksize agblocks agno «uuid_high» «uuid_low» «last_lsn») (kindOf kind)
         (now (list .entry)) (now (numbers .entry)) (length (now (out .entry))))
         (now (numbers .entry)) r (now (said .exit)) (now (out .entry)) (now (out .exit)) ⌝ }
 {
-    let g = geometry(version, blocksize, agblocks, agno, uuid_high, uuid_low);
+    let g = geometry(version, blocksize, agblocks, agno, uuid_high, uuid_low, last_lsn);
     let tree = tree_kind(kind);
     let blocks = numbers.len();
     say(
@@ -85,7 +87,7 @@ pub extern "C" fn kf_build(
     )
 }
 
-// The records of a tree, from its root, and its blocks by level, leaves first: questions 1, 11 and 12, then at each block 13, 14, 3 to 10 and
+// The records of a tree, from its root, and its blocks by level, leaves first: questions 1, 11 and 12, then at each block 13, 14, 3 to 8, 30, 9, 10 and
 // 15. The figures are the visits, the records and their bytes; of a refusal what was expected, what was found and the visits.
 #[no_mangle]
 pub extern "C" fn kf_walk(
@@ -95,6 +97,7 @@ pub extern "C" fn kf_walk(
     agno: u32,
     uuid_high: u64,
     uuid_low: u64,
+    last_lsn: u64,
     kind: u32,
     image: &[u8],
     root: u32,
@@ -106,12 +109,12 @@ pub extern "C" fn kf_walk(
     said: &mut [u64; 4],
 ) -> u32
     ensures { λ r. ⌜ WalkSays (recordLen (kindOf kind)) levels
-        (walkOf (geometryOf version blocksize agblocks agno «uuid_high» «uuid_low») (kindOf kind) (now (image .entry)) root levels
+        (walkOf (geometryOf version blocksize agblocks agno «uuid_high» «uuid_low» «last_lsn») (kindOf kind) (now (image .entry)) root levels
         (lent (now (stack .entry)) (now (scratch .entry)) (now (blocks .entry)) (now (records .entry))))
         r (now (said .exit)) (now (stack .entry)) (now (stack .exit)) (now (scratch .entry)) (now (scratch .exit))
         (now (blocks .entry)) (now (blocks .exit)) (now (records .entry)) (now (records .exit)) ⌝ }
 {
-    let g = geometry(version, blocksize, agblocks, agno, uuid_high, uuid_low);
+    let g = geometry(version, blocksize, agblocks, agno, uuid_high, uuid_low, last_lsn);
     let tree = tree_kind(kind);
     let walked = walk(
         g,
@@ -137,6 +140,7 @@ pub extern "C" fn kf_walk_linked(
     agno: u32,
     uuid_high: u64,
     uuid_low: u64,
+    last_lsn: u64,
     kind: u32,
     image: &[u8],
     root: u32,
@@ -148,12 +152,12 @@ pub extern "C" fn kf_walk_linked(
     said: &mut [u64; 4],
 ) -> u32
     ensures { λ r. ⌜ LinkingSays blocksize (now (image .entry)) (recordLen (kindOf kind)) levels
-        (walkOf (geometryOf version blocksize agblocks agno «uuid_high» «uuid_low») (kindOf kind) (now (image .entry)) root levels
+        (walkOf (geometryOf version blocksize agblocks agno «uuid_high» «uuid_low» «last_lsn») (kindOf kind) (now (image .entry)) root levels
         (lent (now (stack .entry)) (now (scratch .entry)) (now (blocks .entry)) (now (records .entry))))
         r (now (said .exit)) (now (stack .entry)) (now (stack .exit)) (now (scratch .entry)) (now (scratch .exit))
         (now (blocks .entry)) (now (blocks .exit)) (now (records .entry)) (now (records .exit)) ⌝ }
 {
-    let g = geometry(version, blocksize, agblocks, agno, uuid_high, uuid_low);
+    let g = geometry(version, blocksize, agblocks, agno, uuid_high, uuid_low, last_lsn);
     let tree = tree_kind(kind);
     let linking = walk_linked(
         g,
@@ -181,6 +185,7 @@ pub extern "C" fn kf_walk_textbook(
     agno: u32,
     uuid_high: u64,
     uuid_low: u64,
+    last_lsn: u64,
     kind: u32,
     image: &[u8],
     root: u32,
@@ -191,12 +196,12 @@ pub extern "C" fn kf_walk_textbook(
     said: &mut [u64; 4],
 ) -> u32
     ensures { λ r. ⌜ TextbookSays (recordLen (kindOf kind)) levels
-        (textbookOf (geometryOf version blocksize agblocks agno «uuid_high» «uuid_low») (kindOf kind) (now (image .entry)) root levels
+        (textbookOf (geometryOf version blocksize agblocks agno «uuid_high» «uuid_low» «last_lsn») (kindOf kind) (now (image .entry)) root levels
         (lists (now (scratch .entry)) (now (blocks .entry)) (now (records .entry))))
         r (now (said .exit)) (now (scratch .entry)) (now (scratch .exit)) (now (blocks .entry)) (now (blocks .exit))
         (now (records .entry)) (now (records .exit)) ⌝ }
 {
-    let g = geometry(version, blocksize, agblocks, agno, uuid_high, uuid_low);
+    let g = geometry(version, blocksize, agblocks, agno, uuid_high, uuid_low, last_lsn);
     let tree = tree_kind(kind);
     let walked = walk_textbook(
         g,
@@ -212,7 +217,7 @@ pub extern "C" fn kf_walk_textbook(
 }
 
 // How many records of a reverse map lie over each of the numbers `asked`, which ascend, in one descent from its root that skips each child between
-// whose low and high key's start none of them lies: questions 1, 11, 12 (the stack alone) and 29, then at each block 13, 14 and 3 to 10. The figure is the
+// whose low and high key's start none of them lies: questions 1, 11, 12 (the stack alone) and 29, then at each block 13, 14, 3 to 8, 30, 9 and 10. The figure is the
 // visits; of a refusal what was expected, what was found and the visits.
 #[no_mangle]
 pub extern "C" fn kf_lookup(
@@ -222,6 +227,7 @@ pub extern "C" fn kf_lookup(
     agno: u32,
     uuid_high: u64,
     uuid_low: u64,
+    last_lsn: u64,
     image: &[u8],
     root: u32,
     levels: u32,
@@ -231,11 +237,11 @@ pub extern "C" fn kf_lookup(
     said: &mut [u64; 4],
 ) -> u32
     ensures { λ r. ⌜ LookupSays (now (asked .entry))
-        (lookupOf (geometryOf version blocksize agblocks agno «uuid_high» «uuid_low») (now (image .entry)) root levels
+        (lookupOf (geometryOf version blocksize agblocks agno «uuid_high» «uuid_low» «last_lsn») (now (image .entry)) root levels
         (length (now (stack .entry))) (now (asked .entry)) (length (now (answers .entry))))
         r (now (said .exit)) (now (stack .entry)) (now (stack .exit)) (now (answers .entry)) (now (answers .exit)) ⌝ }
 {
-    let g = geometry(version, blocksize, agblocks, agno, uuid_high, uuid_low);
+    let g = geometry(version, blocksize, agblocks, agno, uuid_high, uuid_low, last_lsn);
     let looked = lookup(g, image, AgBlock(root), levels, asked, stack, answers);
     say(looked_up_answer(looked), said)
 }

@@ -1,4 +1,4 @@
--- What build built, stored in an image, the walk returns.
+-- What build built, stored in an image, the walk returns, under every sequence number from the builder's on.
 -- Assumes nothing.
 use Prim.Native.Nat.{ℕ, _-_, _*_, _/_, _%_, _≤_, max}
 use native.Mathlib.Nat.{div-add-mod'}
@@ -14,7 +14,7 @@ use Rattle.codec.specs.Accepted.{whole}
 use Rattle.codec.proofs.Meaning.{AllHold, done-means}
 use Rattle.blocks.specs.declared.geometry.Geometry.{Geometry}
 use Rattle.blocks.specs.declared.kind.TreeKind.{TreeKind}
-use Rattle.blocks.specs.Geometry.{geometryOk, Fits}
+use Rattle.blocks.specs.Geometry.{geometryOk, Fits, withLsn}
 use Rattle.blocks.specs.Tree.{hasTree, recordLen}
 use Rattle.trees.specs.Plan.{sum, levelsOf}
 use Rattle.walks.specs.Walk.{Shape, Trace, finished, spent, failed, met, visitOf, run, fit, visits, records, ending, byLevel, lookIn}
@@ -26,6 +26,7 @@ use Rattle.trees.specs.Build.{planOf, build, rootOf, AreNumbers, Holds, 
 use Rattle.walks.specs.Shapes.{shapeOf}
 use Rattle.trees.specs.BuildCall.{layoutOf, buildQuestions, builtBytes, buildOutcome}
 use Rattle.trees.specs.RoundTrip.{levelsFor, LongEnough, walkBack, Returned, EveryTree}
+use Rattle.walks.proofs.LaterWalks.{every-later-walk}
 use Rattle.trees.proofs.TreeKinds.{sound}
 use Rattle.trees.proofs.Stored.{Made, output-length, build-made, held-blocks, stored-held}
 use Rattle.trees.proofs.WalkedBack.{Back, built-returned}
@@ -91,21 +92,22 @@ module _
 
     -- what was built is returned from any image that holds it at the numbers given, whatever else the image holds
     pub round-trip : (image : List ℕ) (m : Lent) → Holds (g .blocksize) image numbers bytes → length numbers ≤ max (g .agblocks) 64
-        → LongEnough list numbers m → Returned g kind list numbers image m
+        → LongEnough list numbers m → (n : ℕ) → g .«last_lsn» ≤ n → Returned (withLsn g n) kind list numbers image m
     unfolding walkIn
-    round-trip image m held within long =
+    round-trip image m held within long n higher =
         let levels : ℕ = levelsFor g kind list in
         let limit : ℕ = max (g .agblocks) 64 in
         let sh : Shape = shapeOf g kind in
-        let n : ℕ = length list / recordLen kind in
+        let count : ℕ = length list / recordLen kind in
         let v : Trace = run (lookIn sh image) limit (visitOf (rootOf numbers) (levels - 1) ∷ []) in
         let back : Back (planOf sh list) numbers list v =
-        built-returned (layoutOf g kind) s image numbers list n limit (whole-records (recordLen kind) list (asked .0 .1 .1 .0)) few planned small list-bytes
+        built-returned (layoutOf g kind) s image numbers list count limit (whole-records (recordLen kind) list (asked .0 .1 .1 .0)) few planned small list-bytes
         (held-blocks (layoutOf g kind) image (build (layoutOf g kind) numbers list) numbers made (subst (Holds (g .blocksize) image numbers) (sym (asked .1)) held)) within in
         let fit-same : fit (m .blocks) (m .bytes) v ≡ v = back .fits (m .blocks) (m .bytes) (long .blocks) (long .bytes) in
         let some : 1 ≤ levels = plan-some g kind list in
-        let is : walkBack g kind list numbers image m ≡ done v =
+        let first : walkBack g kind list numbers image m ≡ done v =
         rw (ok, le-leb 1 levels some, le-leb levels 9 few, le-leb stackPlaces (m .stack) (long .stack), le-leb (m .blocks) (m .scratch) (long .scratch), fit-same) in
+        let is : walkBack (withLsn g n) kind list numbers image m ≡ done v = every-later-walk g kind image (rootOf numbers) levels m v n higher first (back .ended) in
         record {
           reported =
               ap (report (recordLen kind)) is
@@ -122,15 +124,15 @@ module _
           linked =
               ap (saysLinked (g .blocksize) image levels) is
               ∙ finished-after (levelsLinked (leftsibOf (g .blocksize) image) (rightsibOf (g .blocksize) image) levels (visits v)) false v (back .ended)
-              ∙ built-linked (layoutOf g kind) s image numbers list n (visits v) (whole-records (recordLen kind) list (asked .0 .1 .1 .0)) few planned small list-bytes
+              ∙ built-linked (layoutOf g kind) s image numbers list count (visits v) (whole-records (recordLen kind) list (asked .0 .1 .1 .0)) few planned small list-bytes
               (held-blocks (layoutOf g kind) image (build (layoutOf g kind) numbers list) numbers made (subst (Holds (g .blocksize) image numbers) (sym (asked .1)) held)) (back .tops);
         }
 
     -- and from any image in which it was stored at distinct numbers
     pub stored-returned : (image : List ℕ) (m : Lent) → Places (g .blocksize) (length image) numbers → length numbers ≤ max (g .agblocks) 64
-        → LongEnough list numbers m → Returned g kind list numbers (stored (g .blocksize) image numbers bytes) m
-    stored-returned image m places within long =
-        round-trip (stored (g .blocksize) image numbers bytes) m (stored-held (g .blocksize) image numbers bytes built-length places .0) within long
+        → LongEnough list numbers m → (n : ℕ) → g .«last_lsn» ≤ n → Returned (withLsn g n) kind list numbers (stored (g .blocksize) image numbers bytes) m
+    stored-returned image m places within long n higher =
+        round-trip (stored (g .blocksize) image numbers bytes) m (stored-held (g .blocksize) image numbers bytes built-length places .0) within long n higher
 
 -- so every tree that build built comes back
 pub every-tree : EveryTree

@@ -32,10 +32,10 @@ use Rattle.trees.proofs.SmallTree.{small, small-fits, numbers, small-nu
 
 -- the same geometry on version 4
 abbrev pub four : Geometry
-four = record { version = 4; blocksize = 512; agblocks = 3; agno = 0; «meta_uuid» = replicate 16 0 }
+four = record { version = 4; blocksize = 512; agblocks = 3; agno = 0; «meta_uuid» = replicate 16 0; «last_lsn» = 0 }
 
 four-fits : Fits four
-four-fits = record { agno-fits = omega arith; agblocks-fits = omega arith; uuid-long = refl; uuid-bytes = isBytes-zeros 16 }
+four-fits = record { agno-fits = omega arith; agblocks-fits = omega arith; uuid-long = refl; uuid-bytes = isBytes-zeros 16; lsn-fits = omega arith }
 
 -- n extents of one block each, on every second block: in order by block and by size
 unfoldable pub spread : ℕ → ℕ → List FreeExtent
@@ -79,12 +79,12 @@ imageOf g k list = stored 512 (replicate 1536 0) numbers (builtBytes g k list nu
 by-block-returned : Returned four kind.ByBlock by-block numbers (imageOf four kind.ByBlock by-block) room
 by-block-returned =
     every-tree four kind.ByBlock by-block numbers (builtBytes four kind.ByBlock by-block numbers) 1536 four-fits (extent-bytes 63) small-numbers by-block-built
-    (replicate 1536 0) room small-places (omega arith) by-block-long
+    (replicate 1536 0) room small-places (omega arith) by-block-long 0 (omega arith)
 
 by-size-returned : Returned small kind.BySize by-size numbers (imageOf small kind.BySize by-size) room
 by-size-returned =
     every-tree small kind.BySize by-size numbers (builtBytes small kind.BySize by-size numbers) 1536 small-fits (extent-bytes 58) small-numbers by-size-built
-    (replicate 1536 0) room small-places (omega arith) by-size-long
+    (replicate 1536 0) room small-places (omega arith) by-size-long 5 (omega arith)
 
 -- the walks from the root, block 2, over two levels answer with their counts
 pub by-block-walk : report 8 (walkOf four kind.ByBlock (imageOf four kind.ByBlock by-block) 2 2 room) .outcome ≡ done (record { visits = 3; records = 63; bytes = 504 })

@@ -1,6 +1,7 @@
--- Walks of which `EveryWalk` and `OneLinkWrong` speak: a tree of two leaves and a root, built, stored in an image and walked; and the same with one link wrong.
+-- Walks of which `EveryWalk`, `EveryLaterWalk` and `OneLinkWrong` speak: a tree of two leaves and a root, built, stored in an image and walked, also under a higher
+-- sequence number; and the same with one link wrong.
 -- Assumes nothing.
-use Prim.Native.Nat.{ℕ, zero, suc, _+_, _^_, _<_}
+use Prim.Native.Nat.{ℕ, zero, suc, _+_, _^_, _≤_, _<_}
 use native.Mathlib.Omega.{arith}
 use mathlib.Core.Path.{_≡_, refl, sym, ap, _∙_, subst}
 use mathlib.Core.Bool.{true, false}
@@ -21,7 +22,7 @@ use Rattle.codec.proofs.RecordKinds.{refcounts-lawful}
 use Rattle.blocks.specs.declared.geometry.Geometry.{Geometry}
 use Rattle.blocks.specs.declared.kind.TreeKind.the-variants as kind
 use Rattle.blocks.specs.Geometry as geometry
-use Rattle.blocks.specs.Geometry.{among, nullAgBlock, Fits}
+use Rattle.blocks.specs.Geometry.{among, nullAgBlock, Fits, withLsn}
 use Rattle.blocks.specs.Tree as tree
 use Rattle.trees.specs.Plan as plan
 use Rattle.walks.specs.Walk.{Trace, finished, visits, ending, byLevel, visitOf, lookIn}
@@ -38,10 +39,10 @@ use Rattle.walks.proofs.FinishedWalks.{every-walk}
 use Rattle.walks.proofs.OneLink.{one-link-wrong}
 
 abbrev pub small : Geometry
-small = record { version = 5; blocksize = 512; agblocks = 3; agno = 0; «meta_uuid» = replicate 16 0 }
+small = record { version = 5; blocksize = 512; agblocks = 3; agno = 0; «meta_uuid» = replicate 16 0; «last_lsn» = 5 }
 
 pub small-fits : Fits small
-small-fits = record { agno-fits = omega arith; agblocks-fits = omega arith; uuid-long = refl; uuid-bytes = isBytes-zeros 16 }
+small-fits = record { agno-fits = omega arith; agblocks-fits = omega arith; uuid-long = refl; uuid-bytes = isBytes-zeros 16; lsn-fits = omega arith }
 
 -- n counts of one block each and two owners, on every second block
 unfoldable pub counted : ℕ → ℕ → List Refcount
@@ -85,16 +86,24 @@ long-enough : LongEnough list numbers room
 unfolding counted bytes.beBytes records.fieldBytes records.bytesOf
 long-enough = record { stack = omega arith; scratch = omega arith; blocks = omega arith; bytes = omega arith }
 
--- it comes back
-returned : Returned small kind.Refcount list numbers image room
-returned =
+-- it comes back, under the number that it was built with and any higher one
+returned-at : (n : ℕ) → 5 ≤ n → Returned (withLsn small n) kind.Refcount list numbers image room
+returned-at =
     stored-returned small kind.Refcount list numbers (builtBytes small kind.Refcount list numbers) 1536 small-fits list-bytes small-numbers built (replicate 1536 0) room
     small-places (omega arith) long-enough
+
+returned : Returned small kind.Refcount list numbers image room
+returned = returned-at 5 (omega arith)
 
 -- the walk from the root, block 2, over two levels answers with counts
 pub small-walk : report 12 (walkOf small kind.Refcount image 2 2 room) .outcome ≡ done (record { visits = 3; records = 39; bytes = 468 })
 unfolding counted bytes.beBytes records.fieldBytes records.bytesOf tree.headerLen plan.ceil plan.leaves plan.above plan.levelsOf
 small-walk = ap (λ (p : Report). p .outcome) (returned .reported)
+
+-- and so it does where the log has come to 7
+pub later-walk : report 12 (walkOf (withLsn small 7) kind.Refcount image 2 2 room) .outcome ≡ done (record { visits = 3; records = 39; bytes = 468 })
+unfolding counted bytes.beBytes records.fieldBytes records.bytesOf tree.headerLen plan.ceil plan.leaves plan.above plan.levelsOf
+later-walk = ap (λ (p : Report). p .outcome) (returned-at 7 (omega arith) .reported)
 
 -- so it read a tree
 pub small-read : (t : Trace) × (walkOf small kind.Refcount image 2 2 room ≡ done t) × ReadTree (lookIn (shapeOf small kind.Refcount) image) (visitOf 2 1) t

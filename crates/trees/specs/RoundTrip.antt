@@ -10,7 +10,7 @@ use Rattle.codec.specs.Bytes.{IsBytes, withBytes}
 use Rattle.codec.specs.Question.{Outcome, done}
 use Rattle.blocks.specs.declared.geometry.Geometry.{Geometry}
 use Rattle.blocks.specs.declared.kind.TreeKind.{TreeKind}
-use Rattle.blocks.specs.Geometry.{Fits}
+use Rattle.blocks.specs.Geometry.{Fits, withLsn}
 use Rattle.blocks.specs.Tree.{recordLen}
 use Rattle.walks.specs.Walk.{Trace}
 use Rattle.walks.specs.WalkCall.{Lent, stackPlaces, walkOf, report, blocksAfter, recordsAfter}
@@ -47,10 +47,10 @@ pub record Returned (g : Geometry) (kind : TreeKind) (list numbers image : List 
   pub linked : saysLinked (g .blocksize) image (levelsFor g kind list) (walkBack g kind list numbers image m) ≡ true
 
 -- every tree that build built, of any kind and on any version that has it, stored at distinct numbers inside an image, whatever else the image holds, and
--- within the visit limit, is returned by the walk on the same geometry
+-- within the visit limit, is returned by the walk on the same geometry, under the sequence number that it was built with and any higher one
 abbrev pub EveryTree : Type 0
 EveryTree =
     (g : Geometry) (kind : TreeKind) (list numbers bytes : List ℕ) (room : ℕ) → Fits g → IsBytes list → AreNumbers numbers
     → buildOutcome g kind list numbers room ≡ done bytes
     → (image : List ℕ) (m : Lent) → Places (g .blocksize) (length image) numbers → length numbers ≤ max (g .agblocks) 64
-    → LongEnough list numbers m → Returned g kind list numbers (stored (g .blocksize) image numbers bytes) m
+    → LongEnough list numbers m → (n : ℕ) → g .«last_lsn» ≤ n → Returned (withLsn g n) kind list numbers (stored (g .blocksize) image numbers bytes) m

@@ -13,5 +13,6 @@ pub mod ForestLaws
 pub mod WalkMeaning
 pub mod WalkReasons
 pub mod FinishedWalks
+pub mod LaterWalks
 pub mod OneLink
 pub mod Steps

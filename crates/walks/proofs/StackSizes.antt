@@ -88,7 +88,7 @@ every-accepted g kind image root levels m h = accepted-same g kind levels m _ h
 
 -- blocks of 65,536 bytes: a node of the counts has room for 8,185 children, so nine levels took a stack of 147,330 places
 abbrev wide : Geometry
-wide = record { version = 5; blocksize = 65536; agblocks = 0; agno = 0; «meta_uuid» = replicate 16 0 }
+wide = record { version = 5; blocksize = 65536; agblocks = 0; agno = 0; «meta_uuid» = replicate 16 0; «last_lsn» = 0 }
 
 -- no lists, and a stack of so many places
 abbrev stack-of : ℕ → Lent
@@ -119,7 +119,7 @@ larger-before image root = every-accepted wide kind.Refcount image root 9 (stack
 
 -- a root outside an image of no block, at 512 bytes: on 18 places and on the 20 of before both calls are refused by 14 after one visit, and leave zeros
 abbrev narrow : Geometry
-narrow = record { version = 5; blocksize = 512; agblocks = 0; agno = 0; «meta_uuid» = replicate 16 0 }
+narrow = record { version = 5; blocksize = 512; agblocks = 0; agno = 0; «meta_uuid» = replicate 16 0; «last_lsn» = 0 }
 
 abbrev filled : List ℕ
 filled = 7 ∷ []

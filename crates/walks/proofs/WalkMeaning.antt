@@ -15,7 +15,7 @@ use Rattle.codec.proofs.Parts.{length-bytesAt}
 use Rattle.blocks.specs.declared.geometry.Geometry.{Geometry}
 use Rattle.blocks.specs.declared.kind.TreeKind.{TreeKind}
 use Rattle.blocks.specs.declared.check.BlockRefusal.the-variants.{BadGeometry, Short, NoTree, Uuid, BadField}
-use Rattle.blocks.specs.declared.check.Field.the-variants.{Magic, Crc, Owner, Address, Level, Records}
+use Rattle.blocks.specs.declared.check.Field.the-variants.{Magic, Crc, Owner, Address, Sequence, Level, Records}
 use Rattle.blocks.specs.declared.check.Header.{Header}
 use Rattle.blocks.specs.Geometry.{geometryOk}
 use Rattle.blocks.specs.Tree.{headerLen, recordLen}
@@ -55,6 +55,7 @@ number-back (why.Block (BadField (Magic e f))) = refl
 number-back (why.Block (BadField (Crc e f))) = refl
 number-back (why.Block (BadField (Owner e f))) = refl
 number-back (why.Block (BadField (Address e f))) = refl
+number-back (why.Block (BadField (Sequence e f))) = refl
 number-back (why.Block (BadField (Level e f))) = refl
 number-back (why.Block (BadField (Records e f))) = refl
 

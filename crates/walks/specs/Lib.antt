@@ -7,6 +7,7 @@ pub mod Shapes
 pub mod WalkCall
 pub mod WalkAnswer
 pub mod LargerStack
+pub mod Later
 pub mod Links
 pub mod Forest
 pub mod First

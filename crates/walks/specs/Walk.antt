@@ -129,7 +129,7 @@ abbrev pub lookOf : Outcome Look → Look
 lookOf (done l) = l
 lookOf (refused n x) = bad n x
 
--- a look: does the block lie whole in the image (14)? then the block check (3 to 10), and what is under a block of so many records
+-- a look: does the block lie whole in the image (14)? then the block check (3 to 8, 30, 9 and 10), and what is under a block of so many records
 abbrev pub lookWith : Shape → (List ℕ → ℕ → ℕ → Look) → List ℕ → Visit → Look
 lookWith s below image v =
     lookOf (answer (ask 14 (leb ((v .block + 1) * s .size) (length image)) ∷ [])

@@ -14,7 +14,7 @@ pub enum WalkRefusal {
     Visits,
     // the block does not lie whole in the image: 14
     Outside,
-    // the block check's own refusal: 1, and 3 to 10
+    // the block check's own refusal: 1, 3 to 10 and 30
     Block(BlockRefusal),
     // the block list or the record list is full: 15
     Full,

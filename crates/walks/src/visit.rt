@@ -131,7 +131,7 @@ fn stop(answer: Looked, c: Count) -> Step
     }
 }
 
-// Reads a block that is due: 14, then 3 to 10, then 15. A node has no records: it hands an empty part of the image on.
+// Reads a block that is due: 14, then 3 to 8, 30, 9 and 10, then 15. A node has no records: it hands an empty part of the image on.
 pub fn visit(
     g: Geometry,
     kind: TreeKind,

@@ -211,7 +211,7 @@ pub fn walk_linked(
 
 // Walks a tree of a group from its root, left to right and depth first (`EveryWalk` of specs/Forest.antt): its records in order into `records`,
 // its blocks by level, leaves first, into `blocks`. `image` is the group, block n at n times the block size. Questions 1, 11 and 12 (18 places of
-// `stack`, and as many of `scratch` as of `blocks`); then, at each block, 13, 14, 3 to 10 and 15. `stack` and `scratch` are zero afterwards, and so are
+// `stack`, and as many of `scratch` as of `blocks`); then, at each block, 13, 14, 3 to 8, 30, 9, 10 and 15. `stack` and `scratch` are zero afterwards, and so are
 // both lists where 13 or a later question refused; 1, 11 and 12 touch nothing.
 pub fn walk(
     g: Geometry,

@@ -12,6 +12,6 @@ use Rattle.blocks.specs.Check.{identityQuestions, contentQuestions, head
 abbrev pub contentOutcome : Geometry → TreeKind → ℕ → List ℕ → Outcome Header
 contentOutcome g kind level b = answer (contentQuestions g kind level b) (done (headerOf g kind level b))
 
--- what 5 to 10 come to
+-- what 5 to 8, 30, 9 and 10 come to
 abbrev pub identityOutcome : Geometry → TreeKind → ℕ → ℕ → List ℕ → Outcome Header
 identityOutcome g kind block level b = answer (identityQuestions g block b ++ contentQuestions g kind level b) (done (headerOf g kind level b))

@@ -1,19 +1,20 @@
--- `blocks::check::check_identity` meets its contract: 5 to 8, each where its test was passed or failed.
+-- `blocks::check::check_identity` meets its contract: 5 to 8 and 30, each where its test was passed or failed.
 -- Assumes nothing.
 use borrow.Author.Needs.{needs}
 use mathlib.Core.Path.{_≡_, ap, sym, _∙_}
 use mathlib.Core.Bool.{true}
-use lib.Dec.{eqb}
-use borrow.Author.Tests.{eq-eqb, ne-eqb, not-true, not-false}
+use native.Mathlib.Omega.{arith}
+use lib.Dec.{leb, eqb}
+use borrow.Author.Tests.{eq-eqb, ne-eqb, le-leb, lt-leb, not-true, not-false}
 use Rattle.codec.specs.Bytes.{bytesAt, beOf, leOf}
-use Rattle.blocks.specs.Offsets.{blknoAt, uuidAt, ownerAt, crcAt}
+use Rattle.blocks.specs.Offsets.{blknoAt, lsnAt, uuidAt, ownerAt, crcAt}
 use Rattle.blocks.specs.Geometry.{linearOf, addressOf}
 use Rattle.blocks.specs.Check.{same, blockCrc}
 use Rattle.blocks.proofs.Laws.{address-fits}
 use Rattle.blocks.proofs.check.check_identity.Statement.{statement}
 use Rattle.blocks.proofs.check.check_identity.Tie as tie
 
--- questions 5 to 8, each where its test was passed
+-- questions 5 to 8 and 30, each where its test was passed
 crc-holds : (c : tie.Else1) → let b = c .before .before .before .before .args .b .now in eqb (leOf (bytesAt b crcAt 4)) (blockCrc b) ≡ true
 crc-holds c = eq-eqb _ _ (sym (c .before .le32 .ensures) ∙ c .if1 .left ∙ c .before .before .crc32c-with-zeroed-crc .ensures)
 
@@ -29,17 +30,20 @@ address-is c = ap (addressOf (c .before .before .before .before .before .before 
 address-holds : (c : tie.Else4) → let a = c .before .before .before .before .before .before .before .before .before .before .before .before .before .args in eqb (beOf (bytesAt (a .b .now) blknoAt 8)) (addressOf (a .g) (linearOf (a .g) (a .block .0))) ≡ true
 address-holds c = eq-eqb _ _ (sym (c .before .be64 .ensures) ∙ c .if4 .left ∙ sym (address-is (c .before .before)))
 
+lsn-holds : (c : tie.Else5) → let a = c .before .before .before .before .before .before .before .before .before .before .before .before .before .before .before .args in leb (beOf (bytesAt (a .b .now) lsnAt 8)) (a .g .«last_lsn») ≡ true
+lsn-holds c = rw (← c .before .be642 .ensures) (le-leb (c .before .be642 .result) (c .before .before .before .before .before .before .before .before .before .before .before .before .before .before .before .args .g .«last_lsn») (omega (arith, c .if5 .left)))
+
 crc32c-with-zeroed-crc-requires : tie.Need-crc32c-with-zeroed-crc-requires
 crc32c-with-zeroed-crc-requires c κs = search needs
 
 le32-requires : tie.Need-le32-requires
 le32-requires c κs = search needs
 
-cast-t14 : tie.Need-cast-t14
-cast-t14 c = search needs
+cast-t16 : tie.Need-cast-t16
+cast-t16 c = search needs
 
-cast-t15 : tie.Need-cast-t15
-cast-t15 c = search needs
+cast-t17 : tie.Need-cast-t17
+cast-t17 c = search needs
 
 returns : tie.Need-returns
 returns c = rw (← c .before .le32 .ensures, ← c .before .before .crc32c-with-zeroed-crc .ensures, ne-eqb _ _ (c .if1 .taken))
@@ -53,11 +57,11 @@ returns-2 c = rw (crc-holds (c .before .before .before), ← c .before .is-uuid 
 be32-requires : tie.Need-be32-requires
 be32-requires c κs = search needs
 
-cast-t20 : tie.Need-cast-t20
-cast-t20 c = search needs
+cast-t22 : tie.Need-cast-t22
+cast-t22 c = search needs
 
-cast-t21 : tie.Need-cast-t21
-cast-t21 c = search needs
+cast-t23 : tie.Need-cast-t23
+cast-t23 c = search needs
 
 returns-3 : tie.Need-returns-3
 returns-3 c = rw (crc-holds (c .before .before .before .before .before), uuid-holds (c .before .before), ← c .before .be32 .ensures, ne-eqb _ _ (c .if3 .taken))
@@ -76,11 +80,17 @@ be64-requires c κs = search needs
 returns-4 : tie.Need-returns-4
 returns-4 c = rw (crc-holds (c .before .before .before .before .before .before .before .before .before), uuid-holds (c .before .before .before .before .before .before), owner-holds (c .before .before .before .before), ← c .before .be64 .ensures, address-is (c .before .before), ne-eqb _ _ (c .if4 .taken))
 
+be64-requires-2 : tie.Need-be64-requires-2
+be64-requires-2 c κs = search needs
+
+returns-5 : tie.Need-returns-5
+returns-5 c = rw (crc-holds (c .before .before .before .before .before .before .before .before .before .before .before), uuid-holds (c .before .before .before .before .before .before .before .before), owner-holds (c .before .before .before .before .before .before), address-holds (c .before .before), ← c .before .be642 .ensures, lt-leb _ _ (c .if5 .taken))
+
 check-contents-requires : tie.Need-check-contents-requires
 check-contents-requires c κs = search needs
 
-returns-5 : tie.Need-returns-5
-returns-5 c = rw (crc-holds (c .before .before .before .before .before .before .before .before .before .before), uuid-holds (c .before .before .before .before .before .before .before), owner-holds (c .before .before .before .before .before), address-holds (c .before)) (c .check-contents .ensures)
+returns-6 : tie.Need-returns-6
+returns-6 c = rw (crc-holds (c .before .before .before .before .before .before .before .before .before .before .before .before), uuid-holds (c .before .before .before .before .before .before .before .before .before), owner-holds (c .before .before .before .before .before .before .before), address-holds (c .before .before .before), lsn-holds (c .before)) (c .check-contents .ensures)
 
 pub check-identity-spec : {M : Type 1} → statement M
 check-identity-spec =
@@ -88,18 +98,20 @@ check-identity-spec =
     (tie.spec
     crc32c-with-zeroed-crc-requires
     le32-requires
-    cast-t14
-    cast-t15
+    cast-t16
+    cast-t17
     returns
     is-uuid-requires
     returns-2
     be32-requires
-    cast-t20
-    cast-t21
+    cast-t22
+    cast-t23
     returns-3
     linear-requires
     address-requires
     be64-requires
     returns-4
+    be64-requires-2
+    returns-5
     check-contents-requires
-    returns-5)
+    returns-6)

@@ -60,10 +60,10 @@ returns c =
     let long : length u ≡ 16 = uuid-long start in
     let at : address .address .result .0 ≡ addressOf (a .g) (linearOf (a .g) (a .block .0)) =
     address .address .ensures ∙ ap (addressOf (a .g)) (address .before .linear .ensures) in
-    let two = withBytes-two b blknoAt d (beBytes 8 0) _ _ lsnAt (first .put-be64 .ensures) (second .put-be642 .ensures) refl (omega arith) in
-    let three = withBytes-two b blknoAt (d ++ beBytes 8 0) u _ _ uuidAt two (third .copy .ensures) refl (omega arith) in
+    let two = withBytes-two b blknoAt d (beBytes 8 (a .g .«last_lsn»)) _ _ lsnAt (first .put-be64 .ensures) (second .put-be642 .ensures) refl (omega arith) in
+    let three = withBytes-two b blknoAt (d ++ beBytes 8 (a .g .«last_lsn»)) u _ _ uuidAt two (third .copy .ensures) refl (omega arith) in
     rw (← at)
-    (withBytes-two b blknoAt (d ++ beBytes 8 0 ++ u) (beBytes 4 (a .g .agno)) _ _ ownerAt three (c .before .before .put-be32 .ensures) (omega arith) (omega arith))
+    (withBytes-two b blknoAt (d ++ beBytes 8 (a .g .«last_lsn») ++ u) (beBytes 4 (a .g .agno)) _ _ ownerAt three (c .before .before .put-be32 .ensures) (omega arith) (omega arith))
 
 pub stamp-identity-spec : {M : Type 1} → statement M
 stamp-identity-spec =
