@@ -13,13 +13,15 @@ use Rattle.blocks.specs.declared.geometry.Geometry.{Geometry}
 use Rattle.blocks.specs.declared.kind.TreeKind.{TreeKind}
 use Rattle.blocks.specs.declared.kind.TreeKind.the-variants as kind
 use Rattle.blocks.specs.Geometry as sizes
-use Rattle.blocks.specs.Geometry.{Fits}
+use Rattle.blocks.specs.Geometry.{Fits, withLsn}
 use Rattle.blocks.specs.Tree as headers
 use Rattle.trees.specs.Plan as plan
 use Rattle.trees.specs.Plan.{sum}
-use Rattle.trees.specs.Build.{planOf}
+use Rattle.trees.specs.Build.{planOf, stored}
+use Rattle.trees.specs.BuildCall.{builtBytes}
 use Rattle.walks.specs.WalkCall.{Lent}
 use Rattle.walks.specs.Shapes.{shapeOf}
+use Rattle.trees.specs.RoundTrip as trip
 use Rattle.trees.specs.RoundTrip.{levelsFor, LongEnough}
 use Rattle.codec.proofs.Overwrites.{isBytes-zeros}
 use Rattle.groups.specs.History.{Lists, Stored, Back, Returned}
@@ -27,7 +29,7 @@ use Rattle.groups.proofs.Example.{last-lists, shares}
 use Rattle.groups.proofs.History.{sharing-claim}
 
 abbrev geometry : Geometry
-geometry = record { version = 5; blocksize = 512; agblocks = 0; agno = 0; «meta_uuid» = replicate 16 0 }
+geometry = record { version = 5; blocksize = 512; agblocks = 0; agno = 0; «meta_uuid» = replicate 16 0; «last_lsn» = 5 }
 
 abbrev image : List ℕ
 image = replicate 512 0
@@ -37,7 +39,7 @@ zero-fits zero = omega arith
 zero-fits (suc i) = omega arith
 
 geometry-fits : Fits geometry
-geometry-fits = record { agno-fits = omega arith; agblocks-fits = omega arith; uuid-long = refl; uuid-bytes = isBytes-zeros 16 }
+geometry-fits = record { agno-fits = omega arith; agblocks-fits = omega arith; uuid-long = refl; uuid-bytes = isBytes-zeros 16; lsn-fits = omega arith }
 
 image-length : length image ≡ 512
 image-length = refl
@@ -71,6 +73,7 @@ unfolding headers.headerLen plan.ceil plan.leaves plan.above plan.levelsOf plan.
 map-stored =
     one-block kind.Rmap (last-lists .map) map-lent refl refl (record { stack = omega arith; scratch = omega arith; blocks = omega arith; bytes = omega arith })
 
+-- what was built with 5 comes back under 5 and every higher number
 pub map-back : Back kind.Rmap (last-lists .map) geometry (0 ∷ []) image 512 map-lent
 map-back =
     subst (λ (τ : Lists). Returned kind.Rmap (τ .map)) (shares .left) (sharing-claim .map-returned) geometry (0 ∷ []) image 512 map-lent map-stored
@@ -87,3 +90,7 @@ counts-stored =
 pub counts-back : Back kind.Refcount [] geometry (0 ∷ []) image 512 counts-lent
 counts-back =
     subst (λ (τ : Lists). Returned kind.Refcount (τ .counts)) (shares .left) (sharing-claim .counts-returned) geometry (0 ∷ []) image 512 counts-lent counts-stored
+
+-- and so under 7
+pub later-back : trip.Returned (withLsn geometry 7) kind.Rmap (last-lists .map) (0 ∷ []) (stored 512 image (0 ∷ []) (builtBytes geometry kind.Rmap (last-lists .map) (0 ∷ []))) map-lent
+later-back = map-back .walked 7 (omega arith)

@@ -21,7 +21,7 @@ use Rattle.codec.specs.declared.free_extent.FreeExtent.{FreeExtent}
 use Rattle.blocks.specs.declared.geometry.Geometry.{Geometry}
 use Rattle.blocks.specs.declared.kind.TreeKind.{TreeKind}
 use Rattle.blocks.specs.declared.kind.TreeKind.the-variants as kind
-use Rattle.blocks.specs.Geometry.{geometryOk, Fits}
+use Rattle.blocks.specs.Geometry.{geometryOk, Fits, withLsn}
 use Rattle.trees.specs.Plan.{sum}
 use Rattle.walks.specs.WalkCall.{Lent}
 use Rattle.trees.specs.Build.{planOf, AreNumbers, Places, stored}
@@ -168,11 +168,13 @@ pub record Stored (kind : TreeKind) (list : List ℕ) (g : Geometry) (numbers im
   pub room-left : length numbers * g .blocksize ≤ room
   pub long : trip.LongEnough list numbers lent
 
--- build accepts it, and the walk of the image, whatever else that holds, from the last block over the planned levels, returns the records byte
--- for byte and the block numbers, both in order, in the planned number of visits, and every level is linked
+-- build accepts it, and the walk of the image, whatever else that holds, from the last block over the planned levels, under the sequence number that it
+-- was built with and any higher one, returns the records byte for byte and the block numbers, both in order, in the planned number of visits, and every
+-- level is linked
 pub record Back (kind : TreeKind) (list : List ℕ) (g : Geometry) (numbers image : List ℕ) (room : ℕ) (lent : Lent) : Type 0 where
   pub built : buildOutcome g kind list numbers room ≡ done (builtBytes g kind list numbers)
-  pub walked : trip.Returned g kind list numbers (stored (g .blocksize) image numbers (builtBytes g kind list numbers)) lent
+  pub walked : (n : ℕ) → g .«last_lsn» ≤ n
+      → trip.Returned (withLsn g n) kind list numbers (stored (g .blocksize) image numbers (builtBytes g kind list numbers)) lent
 
 -- each list so built and stored comes back so
 abbrev pub Returned : TreeKind → List ℕ → Type 0

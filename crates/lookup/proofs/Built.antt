@@ -14,7 +14,7 @@ use Rattle.codec.specs.Rmaps.{accepted}
 use Rattle.codec.proofs.Meaning.{AllHold, done-means}
 use Rattle.blocks.specs.declared.geometry.Geometry.{Geometry}
 use Rattle.blocks.specs.declared.kind.TreeKind.the-variants as kind
-use Rattle.blocks.specs.Geometry.{geometryOk}
+use Rattle.blocks.specs.Geometry.{geometryOk, withLsn}
 use Rattle.trees.specs.Plan.{sum, leaves, above, levelsOf}
 use Rattle.trees.specs.BlockLayout.{Sound}
 use Rattle.walks.specs.Walk.{visitOf, Trace, run, fit, visits, records, Shape, perLeaf, perNode, lookIn}
@@ -33,7 +33,9 @@ use Rattle.trees.proofs.BuiltReturned.{whole-records}
 use Rattle.lookup.specs.Claims.{KeysTheirs, Agrees, EveryBuilt, EveryBuiltLookup}
 use Rattle.lookup.specs.Lookup.{lookupOf}
 use Rattle.lookup.proofs.KeyStarts.{accepted-bounded}
+use Rattle.walks.proofs.LaterWalks.{every-later-walk}
 use Rattle.lookup.proofs.Looked.{every-lookup}
+use Rattle.lookup.proofs.LaterLookups.{every-later-lookup}
 use Rattle.lookup.proofs.BuiltKeys.{Fine, walked-alone, KeyedWhole, plan-keyed}
 
 module _ (g : Geometry) (ok : geometryOk g ≡ true) (s : Sound (layoutOf g kind.Rmap)) (image : List ℕ) (limit : ℕ) where
@@ -103,12 +105,16 @@ every-built g list numbers bytes image room m st long =
     )
 
 pub every-built-lookup : EveryBuiltLookup
-every-built-lookup g list numbers bytes image out m places asked room st long q =
+every-built-lookup g list numbers bytes image out m places asked room st long q n higher =
     let b = every-built g list numbers bytes image out m st long in
-    let levels : ℕ = levelsFor g kind.Rmap list in (
+    let levels : ℕ = levelsFor g kind.Rmap list in
+    let a : Agrees (recordsOf rmaps list) (visits (b .0)) asked (lookupOf g image (rootOf numbers) levels places asked room) =
+    subst (λ (l : List ℕ). Agrees (recordsOf rmaps l) (visits (b .0)) asked (lookupOf g image (rootOf numbers) levels places asked room)) (b .1 .1)
+    (every-lookup g image (rootOf numbers) levels m (b .0) places asked room (b .1 .0) q) in
+    let same : lookupOf g image (rootOf numbers) levels places asked room ≡ lookupOf (withLsn g n) image (rootOf numbers) levels places asked room =
+    a .admitted ∙ sym (every-later-lookup g image (rootOf numbers) levels places asked room (a .descent) n higher (a .admitted) (a .finishes)) in (
       b .0,
-      b .1 .0 .walked,
+      every-later-walk g kind.Rmap image (rootOf numbers) levels m (b .0) n higher (b .1 .0 .walked) (b .1 .0 .ended),
       b .1 .0 .ended,
-      subst (λ (l : List ℕ). Agrees (recordsOf rmaps l) (visits (b .0)) asked (lookupOf g image (rootOf numbers) levels places asked room)) (b .1 .1)
-          (every-lookup g image (rootOf numbers) levels m (b .0) places asked room (b .1 .0) q),
+      subst (Agrees (recordsOf rmaps list) (visits (b .0)) asked) same a,
     )

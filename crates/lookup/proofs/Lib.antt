@@ -8,6 +8,7 @@ pub mod CallLaws
 pub mod Pruned
 pub mod Keyed
 pub mod Looked
+pub mod LaterLookups
 pub mod KeyStarts
 pub mod BuiltKeys
 pub mod Built

@@ -17,6 +17,7 @@ use Rattle.codec.proofs.ListBytes.{isBytes-bytesOf}
 use Rattle.codec.proofs.RecordKinds.{rmaps-lawful}
 use Rattle.blocks.specs.declared.kind.TreeKind.the-variants as kind
 use Rattle.blocks.specs.Geometry as geometry
+use Rattle.blocks.specs.Geometry.{withLsn}
 use Rattle.blocks.specs.Tree as tree
 use Rattle.walks.specs.Walk as walk
 use Rattle.walks.specs.Walk.{Trace, finished, ending}
@@ -104,8 +105,15 @@ pub small-lookup : (d : Trace)
     × ((l : List ℕ) → answersAfter asked (lookupOf small image 2 2 18 asked 6) l ≡ bytes.withBytes l 0 counts)
 unfolding shared bytes.beBytes records.fieldBytes records.bytesOf tree.headerLen plan.ceil plan.leaves plan.above plan.levelsOf
 small-lookup =
-    let a = every-built-lookup small list numbers (builtBytes small kind.Rmap list numbers) image 1536 room 18 asked 6 standing long-enough askable .3 in
+    let a = every-built-lookup small list numbers (builtBytes small kind.Rmap list numbers) image 1536 room 18 asked 6 standing long-enough askable 5 (omega arith) .3 in
     (a .descent, a .admitted, a .finishes, λ l. a .answers l ∙ ap (bytes.withBytes l 0) counted)
+
+-- and so where the log has come to 7
+pub later-lookup : (l : List ℕ) → answersAfter asked (lookupOf (withLsn small 7) image 2 2 18 asked 6) l ≡ bytes.withBytes l 0 counts
+unfolding shared bytes.beBytes records.fieldBytes records.bytesOf tree.headerLen plan.ceil plan.leaves plan.above plan.levelsOf
+later-lookup l =
+    let a = every-built-lookup small list numbers (builtBytes small kind.Rmap list numbers) image 1536 room 18 asked 6 standing long-enough askable 7 (omega arith) .3 in
+    a .answers l ∙ ap (bytes.withBytes l 0) counted
 
 -- on 18 places it is what it was on the 40 that two levels took before, and there it is what it was
 pub small-before : lookupOf small image 2 2 18 asked 6 ≡ largerLookupOf small image 2 2 40 asked 6

@@ -1,6 +1,6 @@
 -- What is claimed of every lookup, in any tree that the walk accepts and in one that was built.
--- The statements are `EveryLookup`, `EveryBuilt`, `EveryBuiltLookup`, `EveryLookupStack` and `EveryAcceptedLookup`; what they speak of stands before them.
--- proofs/Looked.antt and proofs/Built.antt prove them, and proofs/SmallLookup.antt has a tree that meets their premises.
+-- The statements are `EveryLookup`, `EveryLaterLookup`, `EveryBuilt`, `EveryBuiltLookup`, `EveryLookupStack` and `EveryAcceptedLookup`; what they speak of stands before them.
+-- proofs/Looked.antt, proofs/LaterLookups.antt and proofs/Built.antt prove them, and proofs/SmallLookup.antt has a tree that meets their premises.
 -- Assumes nothing.
 use Prim.Native.Nat.{ℕ, _+_, _-_, _≤_, _<_, max}
 use mathlib.Core.Path.{_≡_}
@@ -15,7 +15,7 @@ use Rattle.codec.specs.Rmaps.{accepted}
 use Rattle.codec.specs.declared.rmap.Rmap.{Rmap}
 use Rattle.blocks.specs.declared.geometry.Geometry.{Geometry}
 use Rattle.blocks.specs.declared.kind.TreeKind.the-variants as kind
-use Rattle.blocks.specs.Geometry.{Fits}
+use Rattle.blocks.specs.Geometry.{Fits, withLsn}
 use Rattle.walks.specs.Walk.{Visit, Trace, finished, run, visits, records, ending, Shape, blockIn, lookIn}
 use Rattle.walks.specs.Shapes.{shapeOf}
 use Rattle.walks.specs.Path.{childAt, fanOf}
@@ -91,6 +91,14 @@ EveryLookup =
     → Askable places asked room
     → Agrees (recordsOf rmaps (records t)) (visits t) asked (lookupOf g image root levels places asked room)
 
+-- a lookup that comes to its end under one sequence number comes to the same under every higher one
+abbrev pub EveryLaterLookup : Type 0
+EveryLaterLookup =
+    (g : Geometry) (image : List ℕ) (root levels places : ℕ) (asked : List ℕ) (room : ℕ) (d : Trace) (n : ℕ)
+    → g .«last_lsn» ≤ n
+    → lookupOf g image root levels places asked room ≡ done d → ending d ≡ finished
+    → lookupOf (withLsn g n) image root levels places asked room ≡ done d
+
 -- ---- in a tree that was built
 
 -- build built these bytes over the list, with so much output lent, an image holds them at the numbers given, and there are no more than the visits allow
@@ -110,17 +118,18 @@ EveryBuilt =
     → LongEnough list numbers m
     → (t : Trace) × (Searchable g image (rootOf numbers) (levelsFor g kind.Rmap list) m t × (records t ≡ list))
 
--- so a lookup in it counts over the list that was built
+-- so a lookup in it, under the number that it was built with and any higher one, counts over the list that was built
 abbrev pub EveryBuiltLookup : Type 0
 EveryBuiltLookup =
     (g : Geometry) (list numbers bytes image : List ℕ) (out : ℕ) (m : Lent) (places : ℕ) (asked : List ℕ) (room : ℕ)
     → Standing g list numbers bytes image out
     → LongEnough list numbers m
     → Askable places asked room
+    → (n : ℕ) → g .«last_lsn» ≤ n
     → (t : Trace)
-    × (walkOf g kind.Rmap image (rootOf numbers) (levelsFor g kind.Rmap list) m ≡ done t)
+    × (walkOf (withLsn g n) kind.Rmap image (rootOf numbers) (levelsFor g kind.Rmap list) m ≡ done t)
     × (ending t ≡ finished)
-    × Agrees (recordsOf rmaps list) (visits t) asked (lookupOf g image (rootOf numbers) (levelsFor g kind.Rmap list) places asked room)
+    × Agrees (recordsOf rmaps list) (visits t) asked (lookupOf (withLsn g n) image (rootOf numbers) (levelsFor g kind.Rmap list) places asked room)
 
 -- ---- on nine pairs in the place of a larger stack
 

@@ -15,7 +15,7 @@ use Rattle.blocks.specs.declared.check.Header.{Header}
 use Rattle.blocks.specs.Geometry.{withLsn}
 use Rattle.blocks.specs.Check.{checkBlock}
 use Rattle.blocks.proofs.Later.{later-geometry, later-passes}
-use Rattle.walks.specs.Walk.{Visit, visitOf, Look, good, bad, Trace, finished, met, after, run, fit, ending, Shape, blockIn, under, lookOf, lookWith, lookIn}
+use Rattle.walks.specs.Walk.{Visit, visitOf, Look, good, bad, Trace, finished, met, after, run, fit, ending, Shape, blockIn, under, lookOf, lookIn}
 use Rattle.walks.specs.WalkCall.{Lent, walkIn, walkQuestions, walkOf}
 use Rattle.walks.specs.Shapes.{numrecsOf, shapeOf}
 use Rattle.walks.specs.Later.{EveryLaterWalk}
@@ -38,34 +38,27 @@ run-alike look look′ same (suc limit) (v ∷ due) e = go (look v) refl (λ bel
     go (good below bytes) f later h = rw (same v below bytes f) (ap (met v bytes) (later below h))
 
 module _ (g : Geometry) (n : ℕ) (higher : g .«last_lsn» ≤ n) (kind : TreeKind) (image : List ℕ) where
-  -- a look at a block, whatever is made of its records, so long as the same is made of them
-  pub look-later : (found found′ : List ℕ → ℕ → ℕ → Look) → ((part : List ℕ) (level k : ℕ) → found′ part level k ≡ found part level k)
-      → (v : Visit) (below : List Visit) (bytes : List ℕ)
-      → lookWith (shapeOf g kind) found image v ≡ good below bytes → lookWith (shapeOf (withLsn g n) kind) found′ image v ≡ good below bytes
-  look-later found found′ same v below bytes e = go (leb ((v .block + 1) * g .blocksize) (length image)) (checkBlock g kind (v .block) (v .level) part) refl e
-    where
-      part : List ℕ
-      part = blockIn (g .blocksize) image (v .block)
-
-      go : (t : Bool) (o : Outcome Header) → checkBlock g kind (v .block) (v .level) part ≡ o
-          → lookOf (cond t (mapOutcome (found part (v .level)) (numrecsOf o)) (refused 14 none)) ≡ good below bytes
-          → lookOf (cond t (mapOutcome (found′ part (v .level)) (numrecsOf (checkBlock (withLsn g n) kind (v .block) (v .level) part))) (refused 14 none)) ≡ good below bytes
-      go true (done h) is f = rw (later-passes g n higher kind (v .block) (v .level) part h is) (same part (v .level) (h .numrecs) ∙ f)
-      go true (refused k x) is f = let z : _≡_ {A = ℕ} 0 1 = cc in absurd (omega arith)
-      go false o is f = f
-
   -- what is under a block does not go by the number
   under-later : (part : List ℕ) (level k : ℕ) → under (shapeOf (withLsn g n) kind) part level k ≡ under (shapeOf g kind) part level k
   unfolding under
   under-later part zero k = refl
   under-later part (suc level) k = refl
 
-  run-later : (limit : ℕ) (due : List Visit) → ending (run (lookIn (shapeOf g kind) image) limit due) ≡ finished
-      → run (lookIn (shapeOf (withLsn g n) kind) image) limit due ≡ run (lookIn (shapeOf g kind) image) limit due
+  pub look-later : (v : Visit) (below : List Visit) (bytes : List ℕ)
+      → lookIn (shapeOf g kind) image v ≡ good below bytes → lookIn (shapeOf (withLsn g n) kind) image v ≡ good below bytes
   unfolding lookIn
-  run-later limit due e =
-      run-alike (lookIn (shapeOf g kind) image) (lookIn (shapeOf (withLsn g n) kind) image)
-      (look-later (under (shapeOf g kind)) (under (shapeOf (withLsn g n) kind)) under-later) limit due e
+  look-later v below bytes e = go (leb ((v .block + 1) * g .blocksize) (length image)) (checkBlock g kind (v .block) (v .level) part) refl e
+    where
+      part : List ℕ
+      part = blockIn (g .blocksize) image (v .block)
+
+      go : (t : Bool) (o : Outcome Header) → checkBlock g kind (v .block) (v .level) part ≡ o
+          → lookOf (cond t (mapOutcome (under (shapeOf g kind) part (v .level)) (numrecsOf o)) (refused 14 none)) ≡ good below bytes
+          → lookOf (cond t (mapOutcome (under (shapeOf (withLsn g n) kind) part (v .level)) (numrecsOf (checkBlock (withLsn g n) kind (v .block) (v .level) part))) (refused 14 none))
+          ≡ good below bytes
+      go true (done h) is f = rw (later-passes g n higher kind (v .block) (v .level) part h is) (under-later part (v .level) (h .numrecs) ∙ f)
+      go true (refused k x) is f = let z : _≡_ {A = ℕ} 0 1 = cc in absurd (omega arith)
+      go false o is f = f
 
 pub every-later-walk : EveryLaterWalk
 unfolding walkIn
@@ -76,5 +69,6 @@ every-later-walk g kind image root levels m t n higher e h =
     let k = done-means (walkQuestions g levels m) (fit (m .blocks) (m .bytes) here) t e in
     let whole = fit-finished (m .blocks) (m .bytes) here (ap ending (k .1) ∙ h) in
     let same : run (lookIn (shapeOf (withLsn g n) kind) image) limit (root-visit ∷ []) ≡ here =
-    run-later g n higher kind image limit (root-visit ∷ []) (ap ending (sym (whole .0) ∙ k .1) ∙ h) in
+    run-alike (lookIn (shapeOf g kind) image) (lookIn (shapeOf (withLsn g n) kind) image) (look-later g n higher kind image) limit (root-visit ∷ [])
+    (ap ending (sym (whole .0) ∙ k .1) ∙ h) in
     rw (later-geometry g n, same) e
