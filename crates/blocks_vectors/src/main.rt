@@ -11,6 +11,7 @@ use blocks::geometry::Geometry;
 use blocks::kind::TreeKind;
 use codec::endian::be64;
 use show::lines::show_told;
+use show::samples::at_lsn;
 use show::samples::between;
 use show::samples::damage;
 use show::samples::fresh;
@@ -108,6 +109,17 @@ fn show_small(name: &[u8], version: u16, kind: TreeKind, b: &mut [u8]) {
     let g = group(version);
     fresh(g, kind, 7, 0, 0, b);
     show(name, check_block(g, kind, AgBlock(7), 0, b));
+}
+
+// Such a node of a version and a kind, looked for as another block or at another level where the log has come to another sequence number.
+fn show_later(name: &[u8], version: u16, kind: TreeKind, last: u64, block: u32, level: u16) {
+    let g = group(version);
+    let mut b = [0u8; 512];
+    fresh(g, kind, 7, 1, 3, &mut b);
+    show(
+        name,
+        check_block(at_lsn(g, last), kind, AgBlock(block), level, &b),
+    );
 }
 
 // The header of a fresh block by block on version 4 with siblings, and what stands behind it, eight bytes at a time.
@@ -268,11 +280,90 @@ fn free_space_damaged() {
     show_hurt(b"by-size records, 5", 5, TreeKind::BySize, 7, 39, true);
 }
 
+// The node has the number 0x2122232425262728.
+fn sequence_numbers() {
+    show_later(
+        b"its own number",
+        5,
+        TreeKind::Rmap,
+        0x2122232425262728,
+        7,
+        1,
+    );
+    show_later(b"one higher", 5, TreeKind::Rmap, 0x2122232425262729, 7, 1);
+    show_later(b"one lower", 5, TreeKind::Rmap, 0x2122232425262727, 7, 1);
+    show_later(b"no number", 5, TreeKind::Rmap, 0, 7, 1);
+    show_later(b"the highest", 5, TreeKind::Rmap, 0xFFFFFFFFFFFFFFFF, 7, 1);
+    show_later(
+        b"upper half lower",
+        5,
+        TreeKind::Rmap,
+        0x21222323FFFFFFFF,
+        7,
+        1,
+    );
+    show_later(
+        b"lower half lower",
+        5,
+        TreeKind::Rmap,
+        0x2122232500000000,
+        7,
+        1,
+    );
+    show_later(b"from 2^63 on", 5, TreeKind::Rmap, 0x8000000000000000, 7, 1);
+    show_later(
+        b"one lower, counts",
+        5,
+        TreeKind::Refcount,
+        0x2122232425262727,
+        7,
+        1,
+    );
+    show_later(
+        b"one lower, by block",
+        5,
+        TreeKind::ByBlock,
+        0x2122232425262727,
+        7,
+        1,
+    );
+    show_later(
+        b"one lower, by size",
+        5,
+        TreeKind::BySize,
+        0x2122232425262727,
+        7,
+        1,
+    );
+    show_later(
+        b"one lower, as block 8",
+        5,
+        TreeKind::Rmap,
+        0x2122232425262727,
+        8,
+        1,
+    );
+    show_later(
+        b"one lower, as leaf",
+        5,
+        TreeKind::Rmap,
+        0x2122232425262727,
+        7,
+        0,
+    );
+    show_later(b"no number, 4", 4, TreeKind::ByBlock, 0, 7, 1);
+    show_damaged(b"sequence number", 31, 0x29, true);
+    show_damaged(b"sequence number's first byte", 24, 0xFF, true);
+    show_damaged(b"sequence number, lower", 24, 0x20, true);
+    show_damaged(b"sequence number, not sealed", 31, 0x29, false);
+}
+
 fn main() {
     geometries();
     accepted();
     short();
     damaged();
+    sequence_numbers();
     free_space();
     free_space_taken();
     free_space_damaged();

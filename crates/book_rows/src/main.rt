@@ -495,6 +495,7 @@ fn refused_by_blocks() {
     damaged_row(b"second node's uuid", 1, 47, 0, true);
     damaged_row(b"second node's owner", 1, 51, 4, true);
     damaged_row(b"second leaf's address", 2, 23, 1, true);
+    damaged_row(b"second leaf's sequence number", 2, 31, 0x29, true);
     damaged_row(b"second leaf's level", 2, 5, 1, true);
     damaged_row(b"second leaf's records", 2, 7, 20, true);
     damaged_row(b"last pointer outside", 1, 460, 1, true);

@@ -505,6 +505,7 @@ fn damaged() {
     damaged_row(b"5, a leaf's extent", 5, size, 0, 63, 9, false);
     damaged_row(b"5, a leaf's owner", 5, size, 0, 51, 4, true);
     damaged_row(b"5, a leaf's address", 5, size, 0, 23, 9, true);
+    damaged_row(b"5, a leaf's sequence number", 5, size, 0, 31, 0x29, true);
     damaged_row(b"5, a leaf's records", 5, size, 0, 7, 58, true);
     damaged_row(b"5, a left link", 5, size, 3, 11, 4, true);
 }

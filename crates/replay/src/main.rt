@@ -118,6 +118,7 @@ fn on_block(head: &[u8], block: &[u8]) -> bool {
         number(head, 13),
         wide(head, 14),
         wide(head, 16),
+        wide(head, 32),
         number(head, 18),
         number(head, 19),
         narrow(head, 20),
@@ -149,6 +150,7 @@ fn on_plan(head: &[u8], due: &[u8]) -> bool {
         number(head, 13),
         wide(head, 14),
         wide(head, 16),
+        wide(head, 32),
         number(head, 18),
         wide(head, 21),
         &mut levels,
@@ -175,6 +177,7 @@ fn build(head: &[u8], list: &[u8], numbers: &[u32], out: &mut [u8]) -> bool {
         number(head, 13),
         wide(head, 14),
         wide(head, 16),
+        wide(head, 32),
         number(head, 18),
         list,
         numbers,
@@ -221,6 +224,7 @@ fn textbook_by(
         number(head, 13),
         wide(head, 14),
         wide(head, 16),
+        wide(head, 32),
         number(head, 18),
         image,
         number(head, 19),
@@ -248,6 +252,7 @@ fn walk_by(
     let agno = number(head, 13);
     let high = wide(head, 14);
     let low = wide(head, 16);
+    let last = wide(head, 32);
     let kind = number(head, 18);
     let root = number(head, 19);
     let levels = number(head, 20);
@@ -263,6 +268,7 @@ fn walk_by(
             agno,
             high,
             low,
+            last,
             kind,
             image,
             root,
@@ -281,6 +287,7 @@ fn walk_by(
         agno,
         high,
         low,
+        last,
         kind,
         image,
         root,
@@ -439,6 +446,7 @@ fn lookup(
         number(head, 13),
         wide(head, 14),
         wide(head, 16),
+        wide(head, 32),
         image,
         number(head, 19),
         number(head, 20),
@@ -673,7 +681,7 @@ fn replay_within(
 // Replays the next case: 0 where there is none, 1 where something differs, 2 where all is the same. What follows a case that differs is not
 // read.
 fn next() -> u8 {
-    let mut head = [0u8; 128];
+    let mut head = [0u8; 136];
     if !take(&mut head) {
         return 0;
     }

@@ -1,7 +1,7 @@
 // The blocks that the test programs make and damage.
 ghost use mathlib.Core.Path.{_≡_};
 ghost use lib.ListN.{set};
-ghost use Rattle.blocks.specs.Geometry.{nullAgBlock};
+ghost use Rattle.blocks.specs.Geometry.{nullAgBlock, withLsn};
 ghost use Rattle.show.specs.Samples.{sampleGeometry, freshBetween, sealed, damaged};
 use blocks::geometry::AgBlock;
 use blocks::geometry::Geometry;
@@ -24,6 +24,25 @@ pub fn geometry(version: u16, blocksize: u32, agblocks: u32) -> Geometry
         agno: 3,
         meta_uuid: *b"\x10\x11\x12\x13\x14\x15\x16\x17\x18\x19\x1A\x1B\x1C\x1D\x1E\x1F",
         last_lsn: 0x2122232425262728,
+    }
+}
+
+// The same group, where the volume's log has come to another sequence number.
+pub fn at_lsn(g: Geometry, last: u64) -> Geometry
+    ensures { λ r. ⌜ r ≡ withLsn g last ⌝ }
+{
+    let version = g.version;
+    let blocksize = g.blocksize;
+    let agblocks = g.agblocks;
+    let agno = g.agno;
+    let uuid = g.meta_uuid;
+    Geometry {
+        version,
+        blocksize,
+        agblocks,
+        agno,
+        meta_uuid: uuid,
+        last_lsn: last,
     }
 }
 

@@ -50,7 +50,15 @@ pub extern "C" fn kf_check_block(
     ensures { λ r. ⌜ Says headerFigures (checkBlock (geometryOf version blocksize agblocks agno «uuid_high» «uuid_low» «last_lsn») (kindOf kind)
         block level (now (bytes .entry))) r (now (said .exit)) ⌝ }
 {
-    let g = geometry(version, blocksize, agblocks, agno, uuid_high, uuid_low, last_lsn);
+    let g = geometry(
+        version,
+        blocksize,
+        agblocks,
+        agno,
+        uuid_high,
+        uuid_low,
+        last_lsn,
+    );
     let tree = tree_kind(kind);
     let checked = check_block(g, tree, AgBlock(block), level, bytes);
     say(checked_answer(checked), said)

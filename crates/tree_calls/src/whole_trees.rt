@@ -45,7 +45,15 @@ pub extern "C" fn kf_plan(
     ensures { λ r. ⌜ PlanSays (planOutcome (geometryOf version blocksize agblocks agno «uuid_high» «uuid_low» «last_lsn») (kindOf kind) records) r
         (now (said .exit)) (now (levels .entry)) (now (levels .exit)) ⌝ }
 {
-    let g = geometry(version, blocksize, agblocks, agno, uuid_high, uuid_low, last_lsn);
+    let g = geometry(
+        version,
+        blocksize,
+        agblocks,
+        agno,
+        uuid_high,
+        uuid_low,
+        last_lsn,
+    );
     let tree = tree_kind(kind);
     let planned = plan(g, tree, records);
     let blocks = planned.blocks;
@@ -78,7 +86,15 @@ pub extern "C" fn kf_build(
         (now (list .entry)) (now (numbers .entry)) (length (now (out .entry))))
         (now (numbers .entry)) r (now (said .exit)) (now (out .entry)) (now (out .exit)) ⌝ }
 {
-    let g = geometry(version, blocksize, agblocks, agno, uuid_high, uuid_low, last_lsn);
+    let g = geometry(
+        version,
+        blocksize,
+        agblocks,
+        agno,
+        uuid_high,
+        uuid_low,
+        last_lsn,
+    );
     let tree = tree_kind(kind);
     let blocks = numbers.len();
     say(
@@ -114,7 +130,15 @@ pub extern "C" fn kf_walk(
         r (now (said .exit)) (now (stack .entry)) (now (stack .exit)) (now (scratch .entry)) (now (scratch .exit))
         (now (blocks .entry)) (now (blocks .exit)) (now (records .entry)) (now (records .exit)) ⌝ }
 {
-    let g = geometry(version, blocksize, agblocks, agno, uuid_high, uuid_low, last_lsn);
+    let g = geometry(
+        version,
+        blocksize,
+        agblocks,
+        agno,
+        uuid_high,
+        uuid_low,
+        last_lsn,
+    );
     let tree = tree_kind(kind);
     let walked = walk(
         g,
@@ -157,7 +181,15 @@ pub extern "C" fn kf_walk_linked(
         r (now (said .exit)) (now (stack .entry)) (now (stack .exit)) (now (scratch .entry)) (now (scratch .exit))
         (now (blocks .entry)) (now (blocks .exit)) (now (records .entry)) (now (records .exit)) ⌝ }
 {
-    let g = geometry(version, blocksize, agblocks, agno, uuid_high, uuid_low, last_lsn);
+    let g = geometry(
+        version,
+        blocksize,
+        agblocks,
+        agno,
+        uuid_high,
+        uuid_low,
+        last_lsn,
+    );
     let tree = tree_kind(kind);
     let linking = walk_linked(
         g,
@@ -201,7 +233,15 @@ pub extern "C" fn kf_walk_textbook(
         r (now (said .exit)) (now (scratch .entry)) (now (scratch .exit)) (now (blocks .entry)) (now (blocks .exit))
         (now (records .entry)) (now (records .exit)) ⌝ }
 {
-    let g = geometry(version, blocksize, agblocks, agno, uuid_high, uuid_low, last_lsn);
+    let g = geometry(
+        version,
+        blocksize,
+        agblocks,
+        agno,
+        uuid_high,
+        uuid_low,
+        last_lsn,
+    );
     let tree = tree_kind(kind);
     let walked = walk_textbook(
         g,
@@ -241,7 +281,15 @@ pub extern "C" fn kf_lookup(
         (length (now (stack .entry))) (now (asked .entry)) (length (now (answers .entry))))
         r (now (said .exit)) (now (stack .entry)) (now (stack .exit)) (now (answers .entry)) (now (answers .exit)) ⌝ }
 {
-    let g = geometry(version, blocksize, agblocks, agno, uuid_high, uuid_low, last_lsn);
+    let g = geometry(
+        version,
+        blocksize,
+        agblocks,
+        agno,
+        uuid_high,
+        uuid_low,
+        last_lsn,
+    );
     let looked = lookup(g, image, AgBlock(root), levels, asked, stack, answers);
     say(looked_up_answer(looked), said)
 }

@@ -15,6 +15,7 @@ use lookup::lookup::lookup;
 use show::lines::show_told;
 use show::places::all32;
 use show::places::all64;
+use show::samples::at_lsn;
 use show::samples::geometry;
 
 fn show_answer(n: u64) {
@@ -153,6 +154,15 @@ fn from_the_root() {
     row(b"the furthest block", &many[9..10]);
     row(b"past the furthest", &many[10..12]);
     row(b"no numbers", &many[0..0]);
+    tree_row(
+        b"twelve numbers, one sequence number higher",
+        at_lsn(usual(), 0x2122232425262729),
+        14,
+        3,
+        &many,
+        18,
+        16,
+    );
 }
 
 // Two numbers looked up in the right half alone, where the record that reaches past them all is not.
@@ -271,6 +281,7 @@ fn refused_by_blocks() {
     damaged_row(b"node's uuid", 7, 47, 0, true, 10, 556);
     damaged_row(b"node's owner", 7, 51, 4, true, 10, 556);
     damaged_row(b"leaf's address", 13, 23, 1, true, 10, 556);
+    damaged_row(b"leaf's sequence number", 13, 31, 0x29, true, 10, 556);
     damaged_row(b"leaf's level", 13, 5, 1, true, 10, 556);
     damaged_row(b"leaf's records", 13, 7, 20, true, 10, 556);
 }

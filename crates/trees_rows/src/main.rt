@@ -20,6 +20,7 @@ use show::lent::show_tail;
 use show::lent::show_tails;
 use show::lines::show_told;
 use show::lines::words;
+use show::samples::at_lsn;
 use show::samples::damage;
 use show::samples::fresh;
 use show::samples::geometry;
@@ -483,6 +484,14 @@ fn read() {
         3,
         lent(18, 14, 14, 4800),
     );
+    tree_row(
+        b"tree, one number higher",
+        at_lsn(usual(), 0x2122232425262729),
+        10240,
+        14,
+        3,
+        plenty(),
+    );
     tree_row(b"left half", usual(), 10240, 0, 2, plenty());
     tree_row(b"one leaf", usual(), 10240, 13, 1, plenty());
     damaged_row(b"a leaf met twice", 0, 463, 3, true);
@@ -582,12 +591,22 @@ fn refused_by_blocks() {
     damaged_row(b"node's uuid", 0, 47, 0, true);
     damaged_row(b"node's owner", 7, 51, 4, true);
     damaged_row(b"leaf's address", 17, 23, 1, true);
+    damaged_row(b"leaf's sequence number", 11, 31, 0x29, true);
+    damaged_row(b"its upper half", 4, 27, 0x25, true);
     damaged_row(b"leaf's level", 19, 5, 1, true);
     damaged_row(b"leaf's records", 13, 7, 20, true);
     damaged_row(b"node's pointer", 7, 472, 1, true);
     damaged_row(b"node's pointer to a node", 7, 459, 0, true);
     damaged_row(b"node's pointer to no block", 7, 459, 1, true);
     copied_row(b"root's copy", 15);
+    tree_row(
+        b"one number lower",
+        at_lsn(usual(), 0x2122232425262727),
+        10240,
+        14,
+        3,
+        plenty(),
+    );
     tree_row(b"2 levels", usual(), 10240, 14, 2, plenty());
     tree_row(b"4 levels", usual(), 10240, 14, 4, lent(18, 14, 14, 4800));
 }
