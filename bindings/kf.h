@@ -10,8 +10,8 @@
  * A call keeps nothing: it reads and writes what it is given and no other memory but its stack, so calls on memory of their own may run at
  * the same time.
  *
- * A geometry is its six numbers: the version (4 or 5), the block size in bytes, the blocks of a group, the group's number, and the 16 bytes
- * of the volume's UUID as two big-endian numbers.
+ * A geometry is its seven numbers: the version (4 or 5), the block size in bytes, the blocks of a group, the group's number, the 16 bytes
+ * of the volume's UUID as two big-endian numbers, and the last sequence number of the volume's log.
  *
  * A caller's duties. A call cannot look whether they are kept; where one is not, nothing is said of what it does.
  *   - No pointer is null, and each is aligned for its element: at 4 for uint32_t, at 8 for uint64_t.
@@ -46,7 +46,8 @@ extern "C" {
 #endif
 
 #define KF_GEOMETRY \
-    uint16_t version, uint32_t blocksize, uint32_t agblocks, uint32_t agno, uint64_t uuid_high, uint64_t uuid_low
+    uint16_t version, uint32_t blocksize, uint32_t agblocks, uint32_t agno, uint64_t uuid_high, uint64_t uuid_low, \
+        uint64_t last_lsn
 
 /* The kinds of tree: the reverse map, the shared counts, free space by block and free space by size. Version 4 has the last two alone. Pass no
  * other: today any other number is taken for KF_KIND_REFCOUNT, and the next kinds of tree will get 4 and up. */
@@ -132,7 +133,9 @@ enum kf_answer {
     /* Has each shared record over the extent fewer than 4,294,967,295 owners, so that one more can be told? */
     KF_Q_OWNERS = 28,
     /* Do the block numbers asked ascend strictly, and are there at least as many places for answers? */
-    KF_Q_ASKED = 29
+    KF_Q_ASKED = 29,
+    /* On version 5: is the block's sequence number at most the volume's last one? */
+    KF_Q_SEQUENCE = 30
 };
 
 /* CRC32C of the bytes, four at a step from four tables. It answers the CRC. */
@@ -153,7 +156,7 @@ uint32_t kf_check_by_size(const uint8_t *list, size_t list_len);
  * said: 1 if they do, else 0, then 0, 0, 0; refused: zeros. */
 uint32_t kf_same_extents(const uint8_t *by_block, size_t by_block_len, const uint8_t *by_size, size_t by_size_len, uint64_t said[KF_FIGURES]);
 
-/* Is it block `block` of the group's tree, at level `level` (1 to 10)?
+/* Is it block `block` of the group's tree, at level `level` (1 to 8, 30, 9 and 10)?
  * said: records or entries, how many fit, the block named before it on its level, the one named after it (KF_NO_SIBLING: none); refused:
  * expected, found (zeros where they are no numbers), 0, 0. The siblings are not asked about; kf_walk_linked asks. */
 uint32_t kf_check_block(KF_GEOMETRY, uint32_t kind, uint32_t block, uint16_t level,
@@ -165,16 +168,16 @@ uint32_t kf_check_block(KF_GEOMETRY, uint32_t kind, uint32_t block, uint16_t lev
 uint32_t kf_plan(KF_GEOMETRY, uint32_t kind, uint64_t records, uint64_t levels[KF_LEVELS], uint64_t said[KF_FIGURES]);
 
 /* The blocks of a fresh tree of the list, one after another, root last; `numbers` are the planned blocks' numbers in the group, leaves first
- * (1, 3, 19, 20 or 21, 16, 17, 18). Each block names the one before it on its level and the one after, KF_NO_SIBLING at both ends. A refusal
- * leaves `out` as it was, and nothing is written past the last block.
+ * (1, 3, 19, 20 or 21, 16, 17, 18). Each block names the one before it on its level and the one after, KF_NO_SIBLING at both ends, and on
+ * version 5 has the geometry's last sequence number. A refusal leaves `out` as it was, and nothing is written past the last block.
  * said: blocks, bytes, 0, 0; refused: zeros. */
 uint32_t kf_build(KF_GEOMETRY, uint32_t kind, const uint8_t *list, size_t list_len, const uint32_t *numbers, size_t numbers_len,
                   uint8_t *out, size_t out_len, uint64_t said[KF_FIGURES]);
 
 /* The records of a tree of so many levels, from its root, and its blocks by level, leaves first. The image is the group, block n at n times
- * the block size. The stack takes KF_STACK_PLACES places, the scratch as many as `blocks` (1, 11, 12; then at each block 13, 14, 3 to 10, 15). A
- * refusal by 1, 11 or 12 touches none of the four; any other leaves all four zero. A finished walk leaves the stack and the scratch zero, all that
- * was lent of them, and the lists past the result as they were.
+ * the block size. The stack takes KF_STACK_PLACES places, the scratch as many as `blocks` (1, 11, 12; then at each block 13, 14, 3 to 8, 30, 9
+ * and 10, 15). A refusal by 1, 11 or 12 touches none of the four; any other leaves all four zero. A finished walk leaves the stack and the scratch
+ * zero, all that was lent of them, and the lists past the result as they were.
  * said: visits, records, bytes of records, 0; refused: expected, found, visits, 0. */
 uint32_t kf_walk(KF_GEOMETRY, uint32_t kind, const uint8_t *image, size_t image_len, uint32_t root, uint32_t levels,
                  uint32_t *stack, size_t stack_len, uint64_t *scratch, size_t scratch_len,
@@ -189,18 +192,18 @@ uint32_t kf_walk_linked(KF_GEOMETRY, uint32_t kind, const uint8_t *image, size_t
 
 /* The walk as textbooks have it, for a caller who has no stack to lend: one routine reads a block, another its children from left to right, each
  * calling the other, the level falling. It answers, says and leaves what kf_walk does on the same image with a stack of KF_STACK_PLACES places or
- * more. The scratch takes as many places as `blocks`, and 12 asks for nothing else (1, 11, 12; then at each block 13, 14, 3 to 10, 15). A refusal by
- * 1, 11 or 12 touches none of the three; any other leaves all three zero. A finished walk leaves the scratch zero, all that was lent of it, and the
- * lists past the result as they were. What the machine's stack has to have room for goes by the levels alone, which are nine at most: the children
- * of a block are read one after another by the one call that has them.
+ * more. The scratch takes as many places as `blocks`, and 12 asks for nothing else (1, 11, 12; then at each block 13, 14, 3 to 8, 30, 9 and 10,
+ * 15). A refusal by 1, 11 or 12 touches none of the three; any other leaves all three zero. A finished walk leaves the scratch zero, all that was
+ * lent of it, and the lists past the result as they were. What the machine's stack has to have room for goes by the levels alone, which are nine at
+ * most: the children of a block are read one after another by the one call that has them.
  * said: visits, records, bytes of records, 0; refused: expected, found, visits, 0. */
 uint32_t kf_walk_textbook(KF_GEOMETRY, uint32_t kind, const uint8_t *image, size_t image_len, uint32_t root, uint32_t levels,
                           uint64_t *scratch, size_t scratch_len,
                           uint32_t *blocks, size_t blocks_len, uint8_t *records, size_t records_len, uint64_t said[KF_FIGURES]);
 
 /* How many records of the reverse map lie over each of the block numbers `asked`, in one descent from the root: `answers[i]` is that of
- * `asked[i]`. The image and the stack are as for kf_walk; there is no scratch (1, 11, 12, 29; then at each block 13, 14, 3 to
- * 10). In a node a child is skipped where none of all the numbers lies from its low key's start to its high key's start, both included;
+ * `asked[i]`. The image and the stack are as for kf_walk; there is no scratch (1, 11, 12, 29; then at each block 13, 14, 3 to 8, 30, 9
+ * and 10). In a node a child is skipped where none of all the numbers lies from its low key's start to its high key's start, both included;
  * the root is visited always, also with no number asked. An answer counts the records of the leaves visited by their bytes as they are: start
  * <= number < start + count. Where kf_walk reads the tree, its records are accepted (19, 20) and its keys are those of the records under them,
  * these are all records over the block, and no block is visited more often than by the walk. Nothing asks whether the keys are so: in a tree

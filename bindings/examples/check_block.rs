@@ -1,5 +1,6 @@
 //! `check_block CASE`: checks the root of the reverse map in a case file and
-//! prints its header; then changes a bit of it, and prints why it is refused.
+//! prints its header; then takes the volume's log to have ended before the block
+//! was written, then changes a bit of the block, and prints why each is refused.
 //!
 //! The check is the proved library's; what is cut out of the image is this
 //! program's.
@@ -39,6 +40,15 @@ fn run(args: &[String], out: &mut dyn Write) -> Result<(), Box<dyn Error>> {
     let (left, right) = (sibling(header.leftsib), sibling(header.rightsib));
     writeln!(out, "siblings: {left} before it, {right} after it")?;
 
+    // A block that is newer than the log is refused.
+    let lsn = block[24..32].iter().fold(0, |n, &b| n << 8 | u64::from(b));
+    let ended = lsn.checked_sub(1).ok_or("the root is of no log")?;
+    let older = case.geometry.with_last_lsn(ended);
+    match check_block(&older, Kind::Rmap, number, level, &block) {
+        Err(refusal) => writeln!(out, "with a log that ended before it: {refusal}")?,
+        Ok(_) => return Err("a block newer than the log was accepted".into()),
+    }
+
     // One bit changed, and the block is refused.
     if let Some(last) = block.last_mut() {
         *last ^= 1;
@@ -60,6 +70,9 @@ fn a_real_block() {
         "block 8201 is at level 1\n\
          3 entries, room for 22\n\
          siblings: none before it, none after it\n\
+         with a log that ended before it: \
+         the block's sequence number is above the volume's last one (30): \
+         expected 4294967345 at most, found 4294967346\n\
          with its last bit changed: \
          wrong CRC32C (5): expected 0x77dc5647, found 0x85b7d544\n"
     );

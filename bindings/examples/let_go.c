@@ -19,7 +19,10 @@
 #define AGNO 0u
 #define UUID_HIGH 0x0102030405060708u
 #define UUID_LOW 0x090A0B0C0D0E0F10u
-#define GEOMETRY VERSION, BLOCKSIZE, AGBLOCKS, AGNO, UUID_HIGH, UUID_LOW
+/* The last sequence number of the volume's log when the tree is built, and when it is read: the log has gone on. */
+#define LSN_BUILT 0x0000000100000032u
+#define LSN_READ 0x0000000100000040u
+#define GEOMETRY(last_lsn) VERSION, BLOCKSIZE, AGBLOCKS, AGNO, UUID_HIGH, UUID_LOW, last_lsn
 
 /* The reserved owner of the blocks that every group has (-3 as a signed number). */
 #define OWN_FS 0xFFFFFFFFFFFFFFFDu
@@ -167,18 +170,23 @@ static void store_and_read(const struct list *map)
     uint64_t *scratch;
     size_t i;
 
-    expect("plan", kf_plan(GEOMETRY, KF_KIND_RMAP, map->len / KF_RMAP_BYTES, levels, said), KF_DONE);
+    expect("plan", kf_plan(GEOMETRY(LSN_BUILT), KF_KIND_RMAP, map->len / KF_RMAP_BYTES, levels, said), KF_DONE);
     must(said[0] == 1 && said[1] == 1 && levels[0] == 1, "the tree is one block");
 
     built = lend(BLOCKSIZE);
-    expect("build", kf_build(GEOMETRY, KF_KIND_RMAP, map->bytes, map->len, numbers, 1, built.bytes, built.len, said), KF_DONE);
+    expect("build", kf_build(GEOMETRY(LSN_BUILT), KF_KIND_RMAP, map->bytes, map->len, numbers, 1, built.bytes, built.len, said), KF_DONE);
     must(said[0] == 1 && said[1] == BLOCKSIZE, "one block was built");
 
-    expect("check_block", kf_check_block(GEOMETRY, KF_KIND_RMAP, numbers[0], 0, built.bytes, built.len, said), KF_DONE);
+    expect("check_block", kf_check_block(GEOMETRY(LSN_READ), KF_KIND_RMAP, numbers[0], 0, built.bytes, built.len, said), KF_DONE);
     must(said[0] == map->len / KF_RMAP_BYTES, "the block has the map's records");
     must(said[2] == KF_NO_SIBLING && said[3] == KF_NO_SIBLING, "it has no siblings");
-    expect("check_block of another number", kf_check_block(GEOMETRY, KF_KIND_RMAP, 6, 0, built.bytes, built.len, said), KF_Q_ADDRESS);
+    expect("check_block of another number", kf_check_block(GEOMETRY(LSN_READ), KF_KIND_RMAP, 6, 0, built.bytes, built.len, said), KF_Q_ADDRESS);
     printf("  expected address %lu, found %lu\n", (unsigned long)said[0], (unsigned long)said[1]);
+
+    /* A block that is newer than the log is refused. */
+    expect("check_block with an older log",
+           kf_check_block(GEOMETRY(LSN_BUILT - 1), KF_KIND_RMAP, numbers[0], 0, built.bytes, built.len, said), KF_Q_SEQUENCE);
+    must(said[0] == LSN_BUILT - 1 && said[1] == LSN_BUILT, "the log's last number and the block's are told");
 
     /* The group up to this block: block n at n times the block size. */
     image = lend((numbers[0] + 1) * BLOCKSIZE);
@@ -189,7 +197,7 @@ static void store_and_read(const struct list *map)
     blocks = (uint32_t *)room(1 * sizeof *blocks);
     records = lend(BLOCKSIZE);
     expect("walk_linked",
-           kf_walk_linked(GEOMETRY, KF_KIND_RMAP, image.bytes, image.len, numbers[0], 1, stack, KF_STACK_PLACES, scratch, 1, blocks, 1,
+           kf_walk_linked(GEOMETRY(LSN_READ), KF_KIND_RMAP, image.bytes, image.len, numbers[0], 1, stack, KF_STACK_PLACES, scratch, 1, blocks, 1,
                           records.bytes, records.len, said),
            KF_DONE);
     must(said[0] == 1 && blocks[0] == numbers[0], "it met the one block");
@@ -203,14 +211,15 @@ static void store_and_read(const struct list *map)
     /* The same with no stack lent. */
     again = lend(BLOCKSIZE);
     expect("walk_textbook",
-           kf_walk_textbook(GEOMETRY, KF_KIND_RMAP, image.bytes, image.len, numbers[0], 1, scratch, 1, blocks, 1, again.bytes, again.len, said),
+           kf_walk_textbook(GEOMETRY(LSN_READ), KF_KIND_RMAP, image.bytes, image.len, numbers[0], 1, scratch, 1, blocks, 1,
+                            again.bytes, again.len, said),
            KF_DONE);
     must(said[0] == 1 && blocks[0] == numbers[0], "it met the one block too");
     must(said[2] == map->len && memcmp(again.bytes, records.bytes, map->len) == 0, "it gave the same records");
 
     /* How many records lie over each of some blocks, which have to ascend. */
     expect("lookup",
-           kf_lookup(GEOMETRY, image.bytes, image.len, numbers[0], 1, asked, 3, stack, KF_STACK_PLACES, answers, 3, said),
+           kf_lookup(GEOMETRY(LSN_READ), image.bytes, image.len, numbers[0], 1, asked, 3, stack, KF_STACK_PLACES, answers, 3, said),
            KF_DONE);
     must(said[0] == 1, "it read the one block");
     for (i = 0; i < 3; i++)

@@ -23,11 +23,17 @@ pub struct Geometry {
     pub agno: u32,
     /// The volume's UUID, as its blocks have it.
     pub meta_uuid: [u8; 16],
+    /// The last sequence number of the volume's log: build writes it into blocks
+    /// of version 5, and no block of a tree that is read may have a higher one.
+    pub last_lsn: u64,
 }
 
 impl Geometry {
     /// A geometry as given; the calls ask whether it is valid (question 1). What a
     /// later version may know of a volume besides will come by a `with_..`.
+    ///
+    /// The last sequence number is 0 until [`Geometry::with_last_lsn`] gives it; a
+    /// version 5 volume's own blocks are refused by 30 until then.
     pub const fn new(
         version: u16,
         blocksize: u32,
@@ -41,7 +47,31 @@ impl Geometry {
             agblocks,
             agno,
             meta_uuid,
+            last_lsn: 0,
         }
+    }
+
+    /// The same volume, with the last sequence number of its log.
+    ///
+    /// ```
+    /// use kf::{check_block, Geometry, Kind, Question, Tree, Values};
+    /// let g = Geometry::new(5, 512, 9, 0, [7; 16]).with_last_lsn(0x1_0000_0032);
+    /// let block = Tree::build(&g, Kind::Rmap, &[], &[4]).unwrap();
+    /// // The blocks that are built have the number; they read back under it and
+    /// // under any higher one.
+    /// assert_eq!(block[24..32], g.last_lsn.to_be_bytes());
+    /// for last in [g.last_lsn, g.last_lsn + 1, u64::MAX] {
+    ///     assert!(check_block(&g.with_last_lsn(last), Kind::Rmap, 4, 0, &block).is_ok());
+    /// }
+    /// // A block that is newer than the log is refused.
+    /// let older = g.with_last_lsn(g.last_lsn - 1);
+    /// let refusal = check_block(&older, Kind::Rmap, 4, 0, &block).unwrap_err();
+    /// assert_eq!(refusal.question(), Some(Question::Sequence));
+    /// assert_eq!(refusal.values, Some(Values::new(0x1_0000_0031, 0x1_0000_0032)));
+    /// ```
+    pub const fn with_last_lsn(mut self, last_lsn: u64) -> Geometry {
+        self.last_lsn = last_lsn;
+        self
     }
 
     /// The same volume, another group.

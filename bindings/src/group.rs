@@ -117,6 +117,19 @@ impl Tree {
     /// // The same with room for three blocks.
     /// let refused = Tree::walk(&g, Kind::Rmap, &image, Root::new(3, 2, 3)).unwrap_err();
     /// assert_eq!((refused.refusal.number, refused.visits), (15, 4));
+    /// // Block 1 of a copy that is newer than the volume's log.
+    /// let newer = g.with_last_lsn(9);
+    /// let mut copy = image;
+    /// build(&newer, Kind::Rmap, &list, &numbers, &mut copy).unwrap();
+    /// image[512..1024].copy_from_slice(&copy[512..1024]);
+    /// let root = Root::new(3, 2, 4);
+    /// assert!(Tree::walk(&newer, Kind::Rmap, &image, root).is_ok());
+    /// let refused = Tree::walk(&g.with_last_lsn(8), Kind::Rmap, &image, root).unwrap_err();
+    /// assert_eq!(
+    ///     refused.to_string(),
+    ///     "reverse map: the block's sequence number is above the volume's last one (30): \
+    ///      expected 8 at most, found 9, after 3 visits",
+    /// );
     /// ```
     pub fn walk(g: &Geometry, kind: Kind, image: &[u8], root: Root) -> Result<Tree, WalkRefusal> {
         let (lists, linked) = TreeLists::walk(g, image, root, |on| {
@@ -238,7 +251,8 @@ impl Tree {
 
     /// The blocks of a fresh tree of a list of the kind, one after another, root
     /// last. `numbers` are their numbers in the group, leaves first, as many as
-    /// [`Tree::plan`] says. Questions 1, 3, 19, 20 or 21, 16 and 17.
+    /// [`Tree::plan`] says. On version 5 each has the geometry's last sequence
+    /// number. Questions 1, 3, 19, 20 or 21, 16 and 17.
     ///
     /// ```
     /// use kf::{check_block, FreeExtent, Geometry, Kind, Question, Tree};

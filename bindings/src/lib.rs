@@ -35,8 +35,8 @@
 //! use kf::{FreeExtent, Geometry, Group, Kind, Rmap, Root, Tree};
 //! # use std::error::Error;
 //! # fn main() -> Result<(), Box<dyn Error>> {
-//! // From the volume's superblock; group 0.
-//! let g = Geometry::new(5, 512, 64, 0, [7; 16]);
+//! // From the volume's superblock and the end of its log; group 0.
+//! let g = Geometry::new(5, 512, 64, 0, [7; 16]).with_last_lsn(0x1_0000_0032);
 //!
 //! // A new group: inode 131 takes eight blocks, inode 132 shares four of them.
 //! let mut group = Group::default();
@@ -144,8 +144,8 @@
 //!
 //! Under both lie what made the archives (the Rattle kit), the Rust compiler
 //! and the linker. That the geometry, the root and the image are those of the
-//! group is the caller's to see to, and so is that the reverse map and the shared
-//! counts agree: what a let go says is free goes by the counts, and no call asks
+//! group is the caller's to see to, the last sequence number of the log among them,
+//! and so is that the reverse map and the shared counts agree: what a let go says is free goes by the counts, and no call asks
 //! whether a shared record of n owners lies over a block exactly where n records
 //! of the reverse map, two or more, do. Takes and lets go keep lists that agree so
 //! (that is proved), [`insert_shared`], [`remove`] and [`release`] by themselves do

@@ -16,7 +16,7 @@ macro_rules! questions {
         /// assert_eq!(Question::from_number(4), Some(Question::Magic));
         /// assert_eq!(Question::Magic.number(), 4);
         /// assert_eq!(Question::Magic.to_string(), "wrong magic number");
-        /// assert_eq!(Question::ALL.len(), 29);
+        /// assert_eq!(Question::ALL.len(), 30);
         /// ```
         #[derive(Debug, Clone, Copy, PartialEq, Eq, Hash, PartialOrd, Ord)]
         #[non_exhaustive]
@@ -80,6 +80,7 @@ questions! {
     27 Unheld "a block of the extent is not held",
     28 Owners "a shared record over the extent has 4,294,967,295 owners already",
     29 Asked "the block numbers asked do not ascend strictly, or there are fewer places for answers",
+    30 Sequence "the block's sequence number is above the volume's last one",
 }
 
 impl Question {
@@ -130,7 +131,7 @@ impl Values {
 pub struct Refusal {
     /// The number of the question that failed; all before it held.
     pub number: u32,
-    /// The two values; questions 4, 5 and 7 to 10 have them.
+    /// The two values; questions 4, 5, 7 to 10 and 30 have them.
     pub values: Option<Values>,
 }
 
@@ -152,7 +153,7 @@ impl Refusal {
     /// From the number and the figures of a refused call.
     pub(crate) fn from_figures(number: u32, said: &[u64; 4]) -> Refusal {
         let values = match number {
-            4 | 5 | 7..=10 => Some(Values::new(said[0], said[1])),
+            4 | 5 | 7..=10 | 30 => Some(Values::new(said[0], said[1])),
             _ => None,
         };
         Refusal { number, values }
@@ -183,7 +184,7 @@ impl fmt::Display for Refusal {
             Some(Question::Magic | Question::Crc) => {
                 write!(f, ": expected {expected:#010x}, found {found:#010x}")
             }
-            Some(Question::Records) => {
+            Some(Question::Records | Question::Sequence) => {
                 write!(f, ": expected {expected} at most, found {found}")
             }
             _ => write!(f, ": expected {expected}, found {found}"),
@@ -258,7 +259,7 @@ mod tests {
     #[test]
     fn questions() {
         let numbers: Vec<u32> = Question::ALL.iter().map(|q| q.number()).collect();
-        assert_eq!(numbers, (1..=29).collect::<Vec<u32>>());
+        assert_eq!(numbers, (1..=30).collect::<Vec<u32>>());
         let mut texts = BTreeSet::new();
         for &q in Question::ALL {
             assert_eq!(Question::from_number(q.number()), Some(q));
@@ -266,7 +267,7 @@ mod tests {
             assert!(texts.insert(q.text()), "{q:?} has a text of its own");
         }
         assert_eq!(Question::from_number(0), None);
-        assert_eq!(Question::from_number(30), None);
+        assert_eq!(Question::from_number(31), None);
     }
 
     #[test]
@@ -295,6 +296,11 @@ mod tests {
             "the block claims more records or entries than fit it (10): \
              expected 1 at most, found 65261"
         );
+        assert_eq!(
+            text(30),
+            "the block's sequence number is above the volume's last one (30): \
+             expected 1 at most, found 65261"
+        );
         assert_eq!(text(11), "the levels of the tree are not 1 to 9 (11)");
         assert_eq!(
             format!("{:?}", Refusal::new(Question::Missing, None)),
@@ -303,7 +309,7 @@ mod tests {
         assert_eq!(text(99), "refused by question 99");
         assert_eq!(Refusal::from_figures(99, &said).question(), None);
         for &q in Question::ALL {
-            let has_values = matches!(q.number(), 4 | 5 | 7..=10);
+            let has_values = matches!(q.number(), 4 | 5 | 7..=10 | 30);
             let refusal = Refusal::from_figures(q.number(), &said);
             assert_eq!(refusal.values.is_some(), has_values);
             assert_eq!(refusal, Refusal::new(q, refusal.values));

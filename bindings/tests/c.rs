@@ -25,6 +25,7 @@ build: 0
 check_block: 0
 check_block of another number: 8
   expected address 6, found 5
+check_block with an older log: 30
 walk_linked: 0
   record: 4 blocks from 0
 walk_textbook: 0

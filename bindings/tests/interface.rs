@@ -865,11 +865,11 @@ fn a_parameter_dropped_is_found() {
     let found = c_altered("uint32_t block, uint16_t level,", "uint32_t block,");
     assert_eq!(
         found[0],
-        "kf_check_block, parameter 9: `level: u16` in Rattle, `bytes: *const u8` in kf.h"
+        "kf_check_block, parameter 10: `level: u16` in Rattle, `bytes: *const u8` in kf.h"
     );
     assert_eq!(
         found.last().unwrap(),
-        "kf_check_block, parameter 12: `said: *mut [u64; 4]` in Rattle, missing in kf.h"
+        "kf_check_block, parameter 13: `said: *mut [u64; 4]` in Rattle, missing in kf.h"
     );
     assert_eq!(rust_altered("        block: u32,\n", "").len(), 5);
 }
@@ -883,8 +883,8 @@ fn two_parameters_exchanged_are_found() {
     assert_eq!(
         found,
         [
-            "kf_walk, parameter 10: `root: u32` in Rattle, `levels: u32` in kf.h",
-            "kf_walk, parameter 11: `levels: u32` in Rattle, `root: u32` in kf.h"
+            "kf_walk, parameter 11: `root: u32` in Rattle, `levels: u32` in kf.h",
+            "kf_walk, parameter 12: `levels: u32` in Rattle, `root: u32` in kf.h"
         ]
     );
     let found = rust_altered(
@@ -898,6 +898,12 @@ fn two_parameters_exchanged_are_found() {
         "uint32_t agno, uint32_t agblocks",
     );
     assert_eq!(found.len(), 2 * 7);
+    // And the last sequence number stands behind the UUID in each.
+    let found = c_altered(
+        "uint64_t uuid_high, uint64_t uuid_low, \\\n        uint64_t last_lsn",
+        "uint64_t last_lsn, uint64_t uuid_high, uint64_t uuid_low",
+    );
+    assert_eq!(found.len(), 3 * 7);
 }
 
 #[test]
@@ -908,7 +914,7 @@ fn another_width_or_sign_is_found() {
     );
     assert_eq!(
         found,
-        ["kf_plan, parameter 8: `records: u64` in Rattle, `records: u32` in kf.h"]
+        ["kf_plan, parameter 9: `records: u64` in Rattle, `records: u32` in kf.h"]
     );
     assert_eq!(c_altered("uint64_t owner", "int64_t owner").len(), 1);
     assert_eq!(c_altered("uint64_t *scratch", "uint32_t *scratch").len(), 1);
@@ -925,7 +931,7 @@ fn a_dropped_const_is_found() {
     let found = c_altered("const uint8_t *image", "uint8_t *image");
     assert_eq!(
         found,
-        ["kf_walk, parameter 8: `image: *const u8` in Rattle, `image: *mut u8` in kf.h"]
+        ["kf_walk, parameter 9: `image: *const u8` in Rattle, `image: *mut u8` in kf.h"]
     );
     assert_eq!(c_altered("uint8_t *out", "const uint8_t *out").len(), 1);
     assert_eq!(rust_altered("list: *const u8", "list: *mut u8").len(), 1);
@@ -936,7 +942,7 @@ fn another_array_or_result_is_found() {
     let found = rust_altered("levels: *mut [u64; 9],", "levels: *mut [u64; 8],");
     assert_eq!(
         found,
-        ["kf_plan, parameter 9: `levels: *mut [u64; 9]` in Rattle, `levels: *mut [u64; 8]` in raw.rs"]
+        ["kf_plan, parameter 10: `levels: *mut [u64; 9]` in Rattle, `levels: *mut [u64; 8]` in raw.rs"]
     );
     assert_eq!(
         c_altered("uint64_t levels[KF_LEVELS]", "uint64_t *levels").len(),
@@ -1036,10 +1042,10 @@ fn another_answer_is_found() {
     let (header, paper) = (read("bindings/kf.h"), read("docs/QUESTIONS.md"));
     let found = |from, to| answer_differences(&altered(&header, from, to), &paper);
     assert_eq!(
-        found("KF_Q_ASKED = 29", "KF_Q_ASKED = 30"),
+        found("KF_Q_SEQUENCE = 30", "KF_Q_SEQUENCE = 31"),
         [
-            "question 29 has 0 constants",
-            "KF_Q_ASKED is 30, which is no question"
+            "question 30 has 0 constants",
+            "KF_Q_SEQUENCE is 31, which is no question"
         ]
     );
     assert_eq!(

@@ -31,7 +31,9 @@ pub fn main(usage: &str, words: RangeInclusive<usize>, run: Run) -> ExitCode {
     }
 }
 
-/// A group as a case file has it.
+/// A group as a case file has it. The file says nothing of the volume's log: the
+/// last sequence number is taken to be that of the newest block in the file, so
+/// that none is newer.
 pub struct Case {
     pub geometry: Geometry,
     /// The blocks at their places, zeros between them.
@@ -112,6 +114,11 @@ impl Case {
         }
         if n >= self.geometry.agblocks {
             return Err(format!("block {n} is not in the group"));
+        }
+        // A block of version 4 has no sequence number.
+        if let (5, Some(lsn)) = (self.geometry.version, bytes.get(24..32)) {
+            let lsn = lsn.iter().fold(0, |n, &b| n << 8 | u64::from(b));
+            self.geometry.last_lsn = self.geometry.last_lsn.max(lsn);
         }
         put(&mut self.image, n, bytes)
     }

@@ -1,7 +1,7 @@
 //! What the vectors lend is enough, whatever they are given.
 
 use super::*;
-use crate::{check_refcounts, check_rmaps, crc32c, insert, let_go, take_held, Question};
+use crate::{check_refcounts, check_rmaps, crc32c, insert, let_go, take_held, Question, Values};
 use alloc::collections::BTreeSet;
 
 /// Marsaglia's xorshift: numbers that are the same at each run.
@@ -499,7 +499,7 @@ fn walked_by_both_with_a_bit_changed() {
     }
     // Of the root's pointers one can be outside (14); claiming more entries, it has
     // more children than there is room for (15).
-    let numbers = [0, 4, 5, 6, 7, 8, 9, 10, 14, 15];
+    let numbers = [0, 4, 5, 6, 7, 8, 9, 10, 14, 15, 30];
     assert!(met.iter().eq(&numbers), "{met:?}");
 }
 
@@ -578,5 +578,84 @@ fn looked_up_in_a_damaged_tree() {
         assert_eq!(refused.refusal.question(), Some(Question::Magic));
         let before = usize::from(asked[0] == 0);
         assert_eq!(refused.visits, 2 + before);
+    }
+}
+
+/// Trees that are built with a number read back under it and any higher one, and
+/// are refused at the root under any lower one. A plan and the lists are the same
+/// under each.
+#[test]
+fn read_back_under_the_same_number_or_a_higher() {
+    let records = (0..57).flat_map(|i| {
+        let r = Rmap {
+            startblock: 4 * i,
+            blockcount: 2,
+            owner: 7,
+            offset: 0,
+        };
+        r.to_bytes()
+    });
+    let map: Vec<u8> = records.collect();
+    let (numbers, root) = ([0, 1, 2, 3], Root::new(3, 2, 4));
+    for lsn in [1, 1 << 32, (1 << 63) - 1, 1 << 63, u64::MAX] {
+        let g = Geometry::new(5, 512, 9, 3, [7; 16]).with_last_lsn(lsn);
+        let image = Tree::build(&g, Kind::Rmap, &map, &numbers).unwrap();
+        for last in [lsn, lsn.saturating_add(1), u64::MAX] {
+            let g = g.with_last_lsn(last);
+            let tree = Tree::walk(&g, Kind::Rmap, &image, root).unwrap();
+            assert!(tree.records == map && tree.blocks == numbers && tree.linked);
+            let lists = Tree::walk_textbook(&g, Kind::Rmap, &image, root).unwrap();
+            assert!(lists.records == map && lists.blocks == numbers);
+            let found = Tree::lookup(&g, &image, root, &[1, 2, 76]).unwrap();
+            assert_eq!((found.holders, found.visits), (vec![1, 0, 1], 3));
+        }
+        for last in [lsn - 1, 0] {
+            let g = g.with_last_lsn(last);
+            let values = Some(Values::new(last, lsn));
+            let refusal = Refusal::new(Question::Sequence, values);
+            let due = WalkRefusal::new(Kind::Rmap, refusal, 1);
+            assert_eq!(Tree::walk(&g, Kind::Rmap, &image, root), Err(due));
+            assert_eq!(Tree::walk_textbook(&g, Kind::Rmap, &image, root), Err(due));
+            assert_eq!(Tree::lookup(&g, &image, root, &[1]), Err(due));
+        }
+    }
+}
+
+/// One block of a tree is newer than the log: refused where it is read.
+#[test]
+fn a_newer_block_in_a_tree() {
+    let list: Vec<u8> = (0..150)
+        .flat_map(|i| {
+            let x = FreeExtent {
+                startblock: 4 * i,
+                blockcount: 2,
+            };
+            x.to_bytes()
+        })
+        .collect();
+    let (numbers, root) = ([0, 1, 2, 3], Root::new(3, 2, 4));
+    for version in [4, 5] {
+        let old = Geometry::new(version, 512, 9, 3, [7; 16]).with_last_lsn(1 << 40);
+        let new = old.with_last_lsn((1 << 40) + 1);
+        let image = Tree::build(&old, Kind::ByBlock, &list, &numbers).unwrap();
+        let newer = Tree::build(&new, Kind::ByBlock, &list, &numbers).unwrap();
+        // Version 4 has no such number.
+        assert_eq!(image == newer, version == 4);
+        for (n, visits) in [(0, 2), (1, 3), (2, 4), (3, 1)] {
+            let mut image = image.clone();
+            image[n * 512..][..512].copy_from_slice(&newer[n * 512..][..512]);
+            let walked = Tree::walk(&old, Kind::ByBlock, &image, root);
+            let textbook = Tree::walk_textbook(&old, Kind::ByBlock, &image, root);
+            assert!(Tree::walk(&new, Kind::ByBlock, &image, root).is_ok());
+            if version == 4 {
+                assert!(walked.is_ok() && textbook.is_ok());
+                continue;
+            }
+            let values = Some(Values::new(old.last_lsn, new.last_lsn));
+            let refusal = Refusal::new(Question::Sequence, values);
+            let due = WalkRefusal::new(Kind::ByBlock, refusal, visits);
+            assert_eq!(walked, Err(due));
+            assert_eq!(textbook, Err(due));
+        }
     }
 }

@@ -73,8 +73,9 @@ pub struct Header {
     pub rightsib: u32,
 }
 
-/// Is it block `block` of the group's tree, at level `level`? Questions 1 to
-/// 10. The siblings are handed back and not asked about; [`walk_linked`] asks.
+/// Is it block `block` of the group's tree, at level `level`? Questions 1 to 8,
+/// 30, 9 and 10. The siblings are handed back and not asked about;
+/// [`walk_linked`] asks.
 ///
 /// ```
 /// use kf::{check_block, Geometry, Kind, Values, NO_SIBLING};
@@ -109,6 +110,7 @@ pub fn check_block(
             g.agno,
             high,
             low,
+            g.last_lsn,
             kind.number(),
             block,
             level,
@@ -188,6 +190,7 @@ pub fn plan(g: &Geometry, kind: Kind, records: u64) -> Result<Plan, Refusal> {
             g.agno,
             high,
             low,
+            g.last_lsn,
             kind.number(),
             records,
             &mut blocks,
@@ -215,8 +218,8 @@ pub struct Built {
 /// Lays a list out afresh as a tree. `numbers` are the numbers in the group of
 /// the planned blocks, leaves first; the blocks stand one after another in
 /// `out`, root last. Each names the one before it on its level and the one
-/// after, [`NO_SIBLING`] at both ends. Questions 1, 3, 19, 20 or 21, 16, 17 and
-/// 18.
+/// after, [`NO_SIBLING`] at both ends, and on version 5 has the geometry's last
+/// sequence number. Questions 1, 3, 19, 20 or 21, 16, 17 and 18.
 ///
 /// ```
 /// use kf::{build, Geometry, Kind, Rmap};
@@ -249,6 +252,7 @@ pub fn build(
             g.agno,
             high,
             low,
+            g.last_lsn,
             kind.number(),
             list.as_ptr(),
             list.len(),
@@ -346,6 +350,7 @@ type WalkCall = unsafe extern "C" fn(
     u32,
     u64,
     u64,
+    u64,
     u32,
     *const u8,
     usize,
@@ -395,6 +400,7 @@ fn walk_by(
             g.agno,
             high,
             low,
+            g.last_lsn,
             kind.number(),
             image.as_ptr(),
             image.len(),
@@ -416,7 +422,7 @@ fn walk_by(
 
 /// Reads a tree of so many levels from its root. The image is the group, block
 /// n at n times the block size. Questions 1, 11 and 12, then at each block 13,
-/// 14, 3 to 10 and 15.
+/// 14, 3 to 8, 30, 9, 10 and 15.
 ///
 /// ```
 /// use kf::{build, walk, Geometry, Kind, Lent, Rmap, STACK_PLACES};
@@ -502,7 +508,7 @@ pub fn walk_linked(
 /// the other. It gives, refuses and leaves what [`walk`] does on the same image
 /// with a stack of [`STACK_PLACES`] places or more. Questions 1, 11 and 12 (the
 /// scratch alone, of as many places as the block list or more), then at each
-/// block 13, 14, 3 to 10 and 15.
+/// block 13, 14, 3 to 8, 30, 9, 10 and 15.
 ///
 /// Its calls go as deep as the tree has levels, however many children a block
 /// has, so that it takes little of the machine's stack ([`raw`](crate::raw) says
@@ -559,6 +565,7 @@ pub fn walk_textbook(
             g.agno,
             high,
             low,
+            g.last_lsn,
             kind.number(),
             image.as_ptr(),
             image.len(),
@@ -580,7 +587,7 @@ pub fn walk_textbook(
 /// `asked`, in one descent from the root; `answers[i]` is that of `asked[i]`.
 /// Gives the visits. The image is the group, block n at n times the block size.
 /// Questions 1, 11, 12 (the stack alone, of [`STACK_PLACES`] places or more) and
-/// 29, then at each block 13, 14 and 3 to 10.
+/// 29, then at each block 13, 14, 3 to 8, 30, 9 and 10.
 ///
 /// A child of a node is skipped where none of the numbers lies from its low
 /// key's start to its high key's start, both included. The root is visited
@@ -642,6 +649,7 @@ pub fn lookup(
             g.agno,
             high,
             low,
+            g.last_lsn,
             image.as_ptr(),
             image.len(),
             root,
@@ -657,4 +665,122 @@ pub fn lookup(
     };
     answer(n, &said, said[0] as usize)
         .map_err(|refusal| WalkRefusal::new(Kind::Rmap, refusal, said[2] as usize))
+}
+
+#[cfg(test)]
+mod tests {
+    use super::*;
+    use crate::question::{Question, Values};
+    use alloc::vec;
+    use alloc::vec::Vec;
+
+    const KINDS: [Kind; 4] = [Kind::Rmap, Kind::Refcount, Kind::ByBlock, Kind::BySize];
+
+    /// A block of no records, number 3 of its group, built at this number.
+    fn block_at(g: &Geometry, kind: Kind, lsn: u64) -> Vec<u8> {
+        let mut out = vec![0xA5; 512];
+        build(&g.with_last_lsn(lsn), kind, &[], &[3], &mut out).unwrap();
+        out
+    }
+
+    /// The check put right after a change.
+    fn seal(block: &mut [u8]) {
+        block[52..56].fill(0);
+        let crc = crc32c(block);
+        block[52..56].copy_from_slice(&crc.to_le_bytes());
+    }
+
+    /// Numbers on both sides of each bound, as last one and as a block's.
+    const NUMBERS: [u64; 12] = [
+        0,
+        1,
+        2,
+        (1 << 32) - 1,
+        1 << 32,
+        (1 << 32) + 1,
+        (1 << 33) - 1,
+        (1 << 63) - 1,
+        1 << 63,
+        (1 << 63) + 1,
+        u64::MAX - 1,
+        u64::MAX,
+    ];
+
+    #[test]
+    fn no_block_is_newer_than_the_log() {
+        let g = Geometry::new(5, 512, 9, 2, [7; 16]);
+        for kind in KINDS {
+            for found in NUMBERS {
+                let block = block_at(&g, kind, found);
+                assert_eq!(block[24..32], found.to_be_bytes());
+                for last in NUMBERS {
+                    let checked = check_block(&g.with_last_lsn(last), kind, 3, 0, &block);
+                    let refused = Refusal::new(Question::Sequence, Some(Values::new(last, found)));
+                    let due = if found > last { Some(refused) } else { None };
+                    assert_eq!(checked.err(), due, "{kind} {found} under {last}");
+                }
+            }
+        }
+    }
+
+    /// The halves are no numbers of their own.
+    #[test]
+    fn by_all_64_bits() {
+        let g = Geometry::new(5, 512, 9, 2, [7; 16]);
+        let by = |found, last| {
+            let block = block_at(&g, Kind::Rmap, found);
+            let checked = check_block(&g.with_last_lsn(last), Kind::Rmap, 3, 0, &block);
+            checked.err().map(|refusal| refusal.number)
+        };
+        // The upper half alone is above, then the lower half alone.
+        assert_eq!(by(0x0000_0002_0000_0001, 0x0000_0001_0000_0009), Some(30));
+        assert_eq!(by(0x0000_0001_0000_0009, 0x0000_0002_0000_0001), None);
+    }
+
+    /// After 8 and before 9.
+    #[test]
+    fn in_its_place() {
+        let g = Geometry::new(5, 512, 9, 2, [7; 16]).with_last_lsn(4);
+        let block = block_at(&g, Kind::Rmap, 5);
+        let number = |n, level, block: &[u8]| {
+            let checked = check_block(&g, Kind::Rmap, n, level, block);
+            checked.err().map(|refusal| refusal.number)
+        };
+        assert_eq!(number(3, 0, &block), Some(30));
+        assert_eq!(number(4, 0, &block), Some(8));
+        assert_eq!(number(3, 1, &block), Some(30));
+        // More records than fit.
+        let mut full = block.clone();
+        full[6..8].fill(0xFF);
+        seal(&mut full);
+        assert_eq!(number(3, 0, &full), Some(30));
+        full[24..32].copy_from_slice(&4u64.to_be_bytes());
+        seal(&mut full);
+        assert_eq!(number(3, 1, &full), Some(9));
+        assert_eq!(number(3, 0, &full), Some(10));
+    }
+
+    /// A block of version 4 has records where the number would be.
+    #[test]
+    fn not_on_version_4() {
+        let g = Geometry::new(4, 512, 9, 2, [7; 16]);
+        for kind in [Kind::ByBlock, Kind::BySize] {
+            let mut block = block_at(&g, kind, 0);
+            assert_eq!(block, block_at(&g, kind, u64::MAX));
+            block[16..].fill(0xFF);
+            assert!(check_block(&g, kind, 3, 0, &block).is_ok());
+        }
+    }
+
+    /// A plan goes by the number no more than by the UUID.
+    #[test]
+    fn planned_under_any() {
+        let g = Geometry::new(5, 512, 9, 2, [7; 16]);
+        for kind in KINDS {
+            for last in NUMBERS {
+                let planned = plan(&g.with_last_lsn(last), kind, 1000);
+                assert_eq!(planned, plan(&g, kind, 1000));
+            }
+        }
+    }
 }
