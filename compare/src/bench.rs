@@ -188,6 +188,9 @@ fn print_forms(rows: &[Forms]) {
     }
 }
 
+/// The last sequence number of the log, as a volume has it after some use.
+const LAST_LSN: u64 = 0x0000_0001_0000_0032;
+
 /// A tree of so many records, at a block size.
 struct Sample {
     size: usize,
@@ -220,7 +223,7 @@ fn tree_of(kind: Kind, version: u64, list: Vec<u8>, size: usize) -> Sample {
     let total = plan.iter().sum::<u64>() as u32;
     g.agblocks = total;
     let blocks: Vec<u32> = (0..total).collect();
-    let bytes = links::build(&g, kind, &list, &blocks, usize::MAX);
+    let bytes = links::build_at(&g, LAST_LSN, kind, &list, &blocks, usize::MAX);
     let image = Image {
         bytes: bytes.accepted().expect("a tree"),
         root: total - 1,
@@ -238,12 +241,17 @@ fn tree_of(kind: Kind, version: u64, list: Vec<u8>, size: usize) -> Sample {
 }
 
 impl Sample {
+    /// As the library is given the geometry.
+    fn at(&self) -> library::G {
+        library::g(&self.g).at(LAST_LSN)
+    }
+
     fn leaf(&self, i: usize) -> &[u8] {
         &self.image.bytes[i * self.size..][..self.size]
     }
 
     fn check_library(&self) {
-        let g = library::g(&self.g);
+        let g = self.at();
         for i in 0..self.leaves {
             let said = library::check_block(&g, self.kind.number(), i as u32, 0, self.leaf(i));
             assert_eq!(said.number, 0);
@@ -268,7 +276,7 @@ impl Sample {
         let im = &self.image;
         let r = library::walk(
             w,
-            &library::g(&self.g),
+            &self.at(),
             self.kind.number(),
             &im.bytes,
             im.root,
@@ -289,7 +297,7 @@ impl Sample {
     }
 
     fn build_library(&self, out: &mut [u8]) {
-        let g = library::g(&self.g);
+        let g = self.at();
         let kind = self.kind.number();
         let said = library::build(&g, kind, &self.list, &self.image.blocks, out);
         assert_eq!(said.number, 0);
@@ -549,7 +557,7 @@ fn counted(records: &[u8], asked: &[u32]) -> Vec<u64> {
 /// Numbers looked up together, by turns with a whole walk and counting over its
 /// records: the library's, and the original's, which has no lookup.
 fn print_lookup(what: &str, s: &Sample, asked: &[u32]) {
-    let (g, im) = (library::g(&s.g), &s.image);
+    let (g, im) = (s.at(), &s.image);
     let mut lent = Lent::of(s);
     let mut stack = lent.stack.clone();
     let mut answers = vec![0; asked.len()];
@@ -790,7 +798,8 @@ fn vectors() {
 
 fn tree_vectors(n: usize, size: usize) {
     let s = tree_image(n, size);
-    let (g, im, kind) = (layer::geometry(&s.g), &s.image, kf::Kind::Rmap);
+    let g = layer::geometry(&s.g).with_last_lsn(LAST_LSN);
+    let (im, kind) = (&s.image, kf::Kind::Rmap);
     let records = format!("{n} records at {}", apart(size));
 
     let root = kf::Root::new(im.root, im.levels, im.blocks.len() as u32);

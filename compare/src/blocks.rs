@@ -5,6 +5,7 @@ use crate::kinds::{self, header_len, Kind};
 use crate::lent::hex;
 use crate::library;
 use crate::links;
+use crate::sequence;
 use crate::tally::{differ, Tally};
 use oracle::ag_btree::reach::stamp;
 use oracle::sample::Random;
@@ -102,19 +103,32 @@ pub fn seal(g: &Geometry, b: &mut [u8]) {
 const SIBLINGS: &str = "check_block, of those done";
 
 fn one(g: &Geometry, kind: Kind, block: u32, level: u16, b: &[u8], tally: &mut Tally) {
+    one_at(g, sequence::last_lsn(g), kind, block, level, b, tally);
+}
+
+/// A block check under a last sequence number; its answer.
+pub fn one_at(
+    g: &Geometry,
+    last: u64,
+    kind: Kind,
+    block: u32,
+    level: u16,
+    b: &[u8],
+    tally: &mut Tally,
+) -> u32 {
     let input = || {
         format!(
-            "{g:?} {kind:?} block {block} level {level} bytes {}",
+            "{g:?} last {last} {kind:?} block {block} level {level} bytes {}",
             hex(b)
         )
     };
-    let want = kinds::parse_block(g, kind, b, block, level);
+    let want = sequence::parse_block(g, last, kind, b, block, level);
     // Any number above 3 is the counts.
     let number = match kind {
         Kind::REFCOUNT if block & 1 == 1 => u32::MAX,
         _ => kind.number(),
     };
-    let got = library::check_block(&library::g(g), number, block, level, b);
+    let got = library::check_block(&library::g(g).at(last), number, block, level, b);
     let due = expect(&want, |h| header_figures(h, b));
     same("check_block", &got, due, &input);
     tally.add_tree("check_block", kind, g, got.number);
@@ -125,6 +139,7 @@ fn one(g: &Geometry, kind: Kind, block: u32, level: u16, b: &[u8], tally: &mut T
         };
         tally.note(SIBLINGS, how);
     }
+    got.number
 }
 
 /// The figures of a good block. The original hands no siblings back: they are
@@ -178,6 +193,7 @@ pub fn block(r: &mut Random, g: &Geometry, kind: Kind, len: usize) -> (u32, u16,
         if r.below(2) == 0 {
             b[8..16].copy_from_slice(&r.bytes(8));
         }
+        sequence::not_newer(&stamped, &mut b);
         seal(&stamped, &mut b);
     } else if len >= 8 {
         b[..4].copy_from_slice(&magic.to_be_bytes());

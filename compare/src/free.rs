@@ -335,12 +335,12 @@ pub fn trees(r: &mut Random, scale: u64, tally: &mut Tally) {
     }
     // On version 4 a block is asked 4, 9 and 10 alone, and 3 refuses none.
     let four = [0, 1, 4, 9, 10, 11, 12, 13, 14, 15];
-    let five = [0, 1, 4, 5, 6, 7, 8, 9, 10, 11, 12, 13, 14, 15];
+    let five = [0, 1, 4, 5, 6, 7, 8, 9, 10, 11, 12, 13, 14, 15, 30];
     for call in ["walk", "walk_linked", "walk_textbook"] {
         tally.met_all_free(call, 4, &four);
         tally.met_all_free(call, 5, &five);
     }
     tally.met_both(trees::TEXTBOOK);
     tally.met_all_free("check_block", 4, &[0, 1, 2, 4, 9, 10]);
-    tally.met_all_free("check_block", 5, &[0, 1, 2, 4, 5, 6, 7, 8, 9, 10]);
+    tally.met_all_free("check_block", 5, &[0, 1, 2, 4, 5, 6, 7, 8, 9, 10, 30]);
 }

@@ -1,6 +1,7 @@
 //! The library's calls: the number and the figures of each, just as they come.
 
 use crate::machine::{given, lent, Call};
+use crate::sequence;
 use kf::raw;
 use oracle::rmap::Rmap;
 use oracle::Geometry;
@@ -19,6 +20,7 @@ fn said(f: impl FnOnce(&mut [u64; 4]) -> u32) -> Said {
 }
 
 /// As the interface takes a geometry.
+#[derive(Clone, Copy)]
 pub struct G {
     version: u16,
     blocksize: u32,
@@ -26,6 +28,7 @@ pub struct G {
     agno: u32,
     high: u64,
     low: u64,
+    last_lsn: u64,
 }
 
 pub fn g(g: &Geometry) -> G {
@@ -37,12 +40,18 @@ pub fn g(g: &Geometry) -> G {
         agno: g.agno,
         high: (n >> 64) as u64,
         low: n as u64,
+        last_lsn: sequence::last_lsn(g),
     }
 }
 
 impl G {
-    /// Its six numbers as the words of a call.
-    fn words(&self) -> [u64; 6] {
+    /// The same with another last sequence number.
+    pub fn at(self, last_lsn: u64) -> G {
+        G { last_lsn, ..self }
+    }
+
+    /// Its seven numbers as the words of a call.
+    fn words(&self) -> [u64; 7] {
         let four = [
             u32::from(self.version),
             self.blocksize,
@@ -50,7 +59,13 @@ impl G {
             self.agno,
         ];
         let [version, blocksize, agblocks, agno] = four.map(u64::from);
-        [version, blocksize, agblocks, agno, self.high, self.low]
+        let G {
+            high,
+            low,
+            last_lsn,
+            ..
+        } = *self;
+        [version, blocksize, agblocks, agno, high, low, last_lsn]
     }
 }
 
@@ -100,6 +115,7 @@ pub fn check_block(g: &G, kind: u32, block: u32, level: u16, b: &[u8]) -> Said {
             g.agno,
             g.high,
             g.low,
+            g.last_lsn,
             kind,
             block,
             level,
@@ -119,6 +135,7 @@ pub fn plan(g: &G, kind: u32, records: u64, levels: &mut [u64; 9]) -> Said {
             g.agno,
             g.high,
             g.low,
+            g.last_lsn,
             kind,
             records,
             levels,
@@ -136,6 +153,7 @@ pub fn build(g: &G, kind: u32, list: &[u8], numbers: &[u32], out: &mut [u8]) -> 
             g.agno,
             g.high,
             g.low,
+            g.last_lsn,
             kind,
             list.as_ptr(),
             list.len(),
@@ -205,6 +223,7 @@ pub fn walk(
             g.agno,
             g.high,
             g.low,
+            g.last_lsn,
             kind,
             image.as_ptr(),
             image.len(),
@@ -242,6 +261,7 @@ fn walk_textbook(
             g.agno,
             g.high,
             g.low,
+            g.last_lsn,
             kind,
             image.as_ptr(),
             image.len(),
@@ -275,6 +295,7 @@ pub fn lookup(
             g.agno,
             g.high,
             g.low,
+            g.last_lsn,
             image.as_ptr(),
             image.len(),
             root,

@@ -5,6 +5,7 @@
 
 use crate::blocks::{geometry, seal};
 use crate::kinds::{self, header_len, pointer, Kind};
+use crate::sequence;
 use crate::tally::Tally;
 use crate::trees::{self, Room};
 use oracle::ag_btree::reach::stamp;
@@ -76,9 +77,21 @@ pub fn link(g: &Geometry, plan: &[u64], numbers: &[u32], built: &mut [u8]) {
     assert!(rest.is_empty() && blocks.next().is_none());
 }
 
-/// The original's build, linked.
+/// The original's build, linked, with the geometry's last sequence number.
 pub fn build(
     g: &Geometry,
+    kind: Kind,
+    list: &[u8],
+    numbers: &[u32],
+    room: usize,
+) -> Outcome<Vec<u8>> {
+    build_at(g, sequence::last_lsn(g), kind, list, numbers, room)
+}
+
+/// The same with another number.
+pub fn build_at(
+    g: &Geometry,
+    last: u64,
     kind: Kind,
     list: &[u8],
     numbers: &[u32],
@@ -87,6 +100,7 @@ pub fn build(
     kinds::build(g, kind, list, numbers, room).map(|mut built| {
         let n = (list.len() / kind.record_len()) as u64;
         let plan = kinds::plan(g, kind, n).accepted().expect("a plan");
+        sequence::number(g, last, &mut built);
         link(g, &plan, numbers, &mut built);
         built
     })

@@ -8,6 +8,7 @@ use crate::kinds::{self, Kind, STACK_PLACES};
 use crate::lent::{hex, Lent};
 use crate::library;
 use crate::links::{self, be32, put};
+use crate::sequence;
 use crate::tally::{differ, Tally};
 use crate::trees;
 use oracle::ag_btree::reach::stamp;
@@ -18,7 +19,7 @@ use oracle::sample::Random;
 use oracle::{paper, Geometry, Tree};
 
 /// Every answer that a lookup can have.
-pub const ANSWERS: [u32; 15] = [0, 1, 3, 4, 5, 6, 7, 8, 9, 10, 11, 12, 13, 14, 29];
+pub const ANSWERS: [u32; 16] = [0, 1, 3, 4, 5, 6, 7, 8, 9, 10, 11, 12, 13, 14, 29, 30];
 
 /// The lookups of `stacks`, by what became of them.
 const STACKS: &str = "lookup, stack";
@@ -30,6 +31,7 @@ const VISITS: &str = "lookup of a whole tree, visits";
 #[derive(Clone)]
 pub struct Lookup {
     pub g: Geometry,
+    pub last_lsn: u64,
     pub image: Vec<u8>,
     pub root: u32,
     pub levels: u32,
@@ -126,7 +128,11 @@ impl Descent<'_> {
     /// A block that is due, and what is under it, from left to right.
     fn visit(&mut self, block: u32, level: u16) -> Outcome<()> {
         let Lookup {
-            g, image, asked, ..
+            g,
+            last_lsn,
+            image,
+            asked,
+            ..
         } = self.of;
         if self.visited.len() >= g.agblocks.max(64) as usize {
             return Outcome::paper(13);
@@ -137,7 +143,7 @@ impl Descent<'_> {
         let Some(b) = from.and_then(|b| b.get(..size)) else {
             return Outcome::paper(14);
         };
-        let n = match paper::parse_block(g, Tree::Rmap, b, block, level) {
+        let n = match sequence::parse_block(g, *last_lsn, Kind::RMAP, b, block, level) {
             Outcome::Accepted(header) => usize::from(header.records),
             refused => return refused.map(|_| ()),
         };
@@ -214,8 +220,9 @@ impl Lookup {
 
     pub fn input(&self) -> String {
         format!(
-            "lookup {:?} root {} levels {} stack {} answers {} asked {:?} image {}",
+            "lookup {:?} last {} root {} levels {} stack {} answers {} asked {:?} image {}",
             self.g,
+            self.last_lsn,
             self.root,
             self.levels,
             self.stack,
@@ -238,7 +245,7 @@ pub fn one(l: &Lookup, tally: &mut Tally) -> Due {
     let mut stack = Lent::<u32>::new(l.stack);
     let mut answers = Lent::<u64>::new(l.answers);
     let got = library::lookup(
-        &library::g(&l.g),
+        &library::g(&l.g).at(l.last_lsn),
         &l.image,
         l.root,
         l.levels,
@@ -299,6 +306,7 @@ fn stored(r: &mut Random, g: Geometry, n: usize) -> Option<(Lookup, Vec<u32>, Ve
     let levels = plan.len() as u32;
     let l = Lookup {
         g,
+        last_lsn: sequence::last_lsn(&g),
         image,
         root: at[total - 1],
         levels,
@@ -513,6 +521,7 @@ fn shared(r: &mut Random) -> Lookup {
     let asked = sorted((0..most).map(|_| r.below(16) as u32).collect());
     Lookup {
         g,
+        last_lsn: sequence::last_lsn(&g),
         image,
         root: levels - 1,
         levels,
@@ -707,6 +716,7 @@ pub fn folded(size: u64, levels: u32) -> Lookup {
     seal(&g, &mut image[..size as usize]);
     Lookup {
         g,
+        last_lsn: sequence::last_lsn(&g),
         image,
         root: levels - 1,
         levels,

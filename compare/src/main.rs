@@ -21,6 +21,7 @@ mod lookups;
 mod machine;
 mod real;
 mod sample;
+mod sequence;
 mod tally;
 mod textbook;
 mod trees;
@@ -37,7 +38,7 @@ struct Part {
 }
 
 /// In this order: a part's seed goes by its place.
-const PARTS: [Part; 17] = [
+const PARTS: [Part; 18] = [
     Part {
         name: "crc",
         tries:
@@ -124,6 +125,11 @@ const PARTS: [Part; 17] = [
         name: "textbook",
         tries: "nine levels of full nodes, also on a small stack of the machine, and images with any pointers",
         run: textbook::textbook,
+    },
+    Part {
+        name: "sequence",
+        tries: "blocks and trees with sequence numbers around the volume's last one, and single newer blocks",
+        run: sequence::sequence,
     },
 ];
 

@@ -4,8 +4,11 @@
 //! A `.case` file has a geometry and blocks in hex, its `.expect` what was
 //! printed of them. The trees are `rmap`, `refcount`, `bno` (free space by block)
 //! and `cnt` (by size); each has to be linked, by the siblings printed, and is
-//! refused as any other kind. The last two have to hold the same extents. An
-//! `.ops` file is a history. Each file is named with the calls that were made for
+//! refused as any other kind. The last two have to hold the same extents. A case
+//! does not say where the volume's log ended: the last sequence number is taken to be
+//! that of the newest block in it, of all trees. A tree is read under it and under the
+//! highest one alike, and on version 5 is refused under one below its newest block's.
+//! An `.ops` file is a history. Each file is named with the calls that were made for
 //! it, and a file that gives rise to none is an error.
 
 use crate::free;
@@ -14,18 +17,23 @@ use crate::library::{self, Walk};
 use crate::links;
 use crate::lists::{count_bytes, Count, STAGING};
 use crate::lookups::{self, Lookup};
+use crate::sequence;
 use crate::tally::Tally;
 use crate::trees::{walk_figures, Memory, Room};
 use crate::vectors::extent;
 use oracle::alloc_btree::FreeExtent;
 use oracle::bare::{WalkAnswer, Walked};
+use oracle::refusal::Outcome;
 use oracle::rmap::{Rmap, OFF_ATTR_FORK, OFF_BMBT_BLOCK, OFF_UNWRITTEN};
 use oracle::{bare, Geometry, Tree};
 use std::fs;
 
 /// A tree of a volume, and what it holds.
+#[derive(Clone)]
 pub struct RealTree {
     pub g: Geometry,
+    /// The highest sequence number of a block in the case; on version 4 there is none.
+    pub last_lsn: u64,
     pub kind: Kind,
     pub root: u32,
     pub levels: u32,
@@ -81,6 +89,7 @@ pub fn read(case: &str) -> Vec<RealTree> {
             ["uuid", h] => g.meta_uuid = unhex(h).try_into().expect("16 bytes"),
             ["tree", name, "root", root, "levels", levels] => all.push(RealTree {
                 g,
+                last_lsn: 0,
                 kind: kind(name),
                 root: number(root),
                 levels: number(levels),
@@ -95,6 +104,10 @@ pub fn read(case: &str) -> Vec<RealTree> {
             }
             _ => panic!("{case}: {line}"),
         }
+    }
+    let last = all.iter().filter_map(RealTree::newest).max();
+    for t in &mut all {
+        t.last_lsn = last.unwrap_or(0);
     }
     let mut at = None;
     for line in expect.lines().filter(|l| !l.starts_with('#')) {
@@ -150,6 +163,23 @@ pub fn read(case: &str) -> Vec<RealTree> {
 }
 
 impl RealTree {
+    /// The number of its newest block; on version 4 it has none.
+    pub fn newest(&self) -> Option<u64> {
+        let numbers = self
+            .stored
+            .iter()
+            .map(|(_, b)| sequence::number_of(&self.g, b));
+        numbers.flatten().max()
+    }
+
+    /// The same under another last number.
+    pub fn at(&self, last_lsn: u64) -> RealTree {
+        RealTree {
+            last_lsn,
+            ..self.clone()
+        }
+    }
+
     /// The group's image up to its last block; other blocks are zero.
     pub fn image(&self) -> Vec<u8> {
         let size = self.g.block_size as usize;
@@ -258,7 +288,9 @@ fn history(file: &str, name: &str) -> u32 {
 /// The walks of a tree, read as one of a kind, with as many places and bytes
 /// as the tree has, beside the original's: its answer.
 fn walks(what: &str, t: &RealTree, kind: Kind, image: &[u8], linked: bool) -> WalkAnswer {
-    let a = kinds::bare_walk(&t.g, kind, image, t.root, t.levels);
+    let a = sequence::walked(&t.g, t.last_lsn, image, |image| {
+        kinds::bare_walk(&t.g, kind, image, t.root, t.levels)
+    });
     for w in Walk::ALL {
         let mut m = Memory::new(Room {
             stack: kinds::STACK_PLACES,
@@ -266,7 +298,8 @@ fn walks(what: &str, t: &RealTree, kind: Kind, image: &[u8], linked: bool) -> Wa
             blocks: t.blocks.len(),
             bytes: t.records.len(),
         });
-        let said = m.walk(w, &t.g, kind, image, t.root, t.levels);
+        let g = library::g(&t.g).at(t.last_lsn);
+        let said = m.walk(w, &g, kind, image, t.root, t.levels);
         let due = walk_figures(&a, kind, w.says(linked));
         assert_eq!((said.number, said.figures), due, "{what} {w:?}");
         for (part, r) in m.left(w, &a) {
@@ -296,6 +329,7 @@ fn lookups_of(what: &str, t: &RealTree, image: &[u8], walked: &Walked) -> u64 {
     );
     let mut l = Lookup {
         g: t.g,
+        last_lsn: t.last_lsn,
         image: image.to_vec(),
         root: t.root,
         levels: t.levels,
@@ -310,11 +344,29 @@ fn lookups_of(what: &str, t: &RealTree, image: &[u8], walked: &Walked) -> u64 {
             lookups::one_whole(&l, walked, &mut tally);
         }
     }
+    // All together no child is skipped, so that the newest block is met.
+    l.asked = asked;
+    l.last_lsn = u64::MAX;
+    lookups::one_whole(&l, walked, &mut tally);
+    if let Some(newest) = t.newest() {
+        l.last_lsn = newest - 1;
+        let due = lookups::one(&l, &mut tally);
+        assert_eq!(due.number, 30, "{what}: one below its newest block's");
+        assert_eq!(due.figures[..2], [newest - 1, newest], "{what}");
+    }
     tally.calls()
 }
 
-/// A tree: its records, blocks and siblings are those printed, and it is linked;
-/// as any other kind it is refused.
+/// The check of a block of a tree under a last number.
+fn checked(t: &RealTree, last: u64, n: u32, b: &[u8]) -> library::Said {
+    let level = u16::from(b[4]) * 256 + u16::from(b[5]);
+    let g = library::g(&t.g).at(last);
+    library::check_block(&g, t.kind.number(), n, level, b)
+}
+
+/// A tree: its records, blocks and siblings are those printed, and it is linked,
+/// under the last number and under the highest; under one below its newest block's,
+/// and as any other kind, it is refused.
 fn one_tree(case: &str, t: &RealTree) -> u32 {
     let what = format!("{case} {}", name(t.kind));
     let image = t.image();
@@ -323,14 +375,38 @@ fn one_tree(case: &str, t: &RealTree) -> u32 {
     assert!(a.blocks == t.blocks && a.records == t.records, "{what}");
     assert!(links::linked(&t.g, &image, &t.blocks), "{what}: linked");
     assert_eq!(t.siblings.len(), t.blocks.len(), "{what}: siblings printed");
+    let mut checks = 0;
     for &[n, left, right] in &t.siblings {
         let b = links::block(&t.g, &image, n);
-        let (g, kind) = (library::g(&t.g), t.kind.number());
-        let level = u16::from(b[4]) * 256 + u16::from(b[5]);
-        let said = library::check_block(&g, kind, n, level, b);
         let due = [left, right].map(u64::from);
-        assert_eq!((said.number, &said.figures[2..]), (0, &due[..]), "{what}");
+        for last in [t.last_lsn, u64::MAX] {
+            let said = checked(t, last, n, b);
+            assert_eq!((said.number, &said.figures[2..]), (0, &due[..]), "{what}");
+            checks += 1;
+        }
+        if let Some(lsn) = sequence::number_of(&t.g, b) {
+            let said = checked(t, lsn - 1, n, b);
+            let due = (30, [lsn - 1, lsn, 0, 0]);
+            assert_eq!((said.number, said.figures), due, "{what}");
+            checks += 1;
+        }
     }
+    let mut walked = 2;
+    let highest = walks(&what, &t.at(u64::MAX), t.kind, &image, true);
+    assert!(highest.outcome == Outcome::Accepted(a.clone()), "{what}");
+    let newest = match t.newest() {
+        Some(newest) => {
+            walked += 1;
+            let below = walks(&what, &t.at(newest - 1), t.kind, &image, false);
+            let values = (newest - 1, newest);
+            let Outcome::Refused(r) = below.outcome else {
+                panic!("{what}: read under one below its newest block's");
+            };
+            assert_eq!((r.number, r.values), (30, Some(values)), "{what}");
+            format!("newest block {newest:#x}, under one below refused by 30")
+        }
+        None => "no sequence numbers".to_string(),
+    };
     let looked = match t.kind {
         Kind::RMAP => lookups_of(&what, t, &image, &a),
         _ => 0,
@@ -346,16 +422,17 @@ fn one_tree(case: &str, t: &RealTree) -> u32 {
         refused.push(format!("{} by {due}", name(kind)));
     }
     let (n, count) = (a.blocks.len(), a.records.len() / t.kind.record_len());
-    let walked = Kind::ALL.len() * Walk::ALL.len();
+    let walked = (walked + Kind::ALL.len() - 1) * Walk::ALL.len();
     let lookups = match looked {
         0 => String::new(),
         n => format!(", lookups {n}, keys theirs"),
     };
     println!(
-        "{what}: walks {walked}, block checks {n}{lookups}; blocks {n}, records {count} and siblings as printed, linked; refused as {}",
+        "{what}: walks {walked}, block checks {checks}{lookups}; blocks {n}, records {count} and siblings as printed, linked; last number {:#x}, {newest}; refused as {}",
+        t.last_lsn,
         refused.join(", ")
     );
-    walked as u32 + n as u32 + looked as u32
+    walked as u32 + checks + looked as u32
 }
 
 /// Both free-space trees: each list is accepted in its order, and they hold the

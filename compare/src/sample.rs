@@ -1,7 +1,7 @@
 //! Cases with the original's answers, or a definition's where it has no such
 //! call or figure, for the program `replay`.
 //!
-//! A case is 32 numbers of 4 bytes, big-endian, then bytes:
+//! A case is 34 numbers of 4 bytes, big-endian, then bytes:
 //!
 //! | number | |
 //! |---|---|
@@ -18,6 +18,7 @@
 //! | 25, 26 | bytes of the two inputs |
 //! | 27, 28, 29 | bytes of the three outputs; of a walk (7, 13, 16, 17, 22 and 23) 29 is 1 where it leaves stack and scratch zero, 0 where they are untouched, of a lookup the same of its stack |
 //! | 30, 31 | of a walk: places of the stack, of a textbook walk 0, and of the scratch; of a lookup in 30 those of the stack |
+//! | 32, 33 | the last sequence number, high half first; 0 for a call without a geometry |
 //!
 //! Then the inputs, then what each output holds afterwards, all of it: outputs
 //! are lent filled with the byte 0xA5. The second input of a build is its
@@ -38,8 +39,10 @@ use crate::links;
 use crate::lists;
 use crate::lookups::{self, Due, Left, Lookup};
 use crate::real;
+use crate::sequence;
 use crate::textbook;
 use crate::trees;
+use oracle::ag_btree::reach::stamp;
 use oracle::alloc_btree::Order;
 use oracle::refusal::Outcome;
 use oracle::rmap::Rmap;
@@ -80,9 +83,11 @@ const CALLS: [&str; 24] = [
 /// A textbook walk; the next is one of real blocks.
 const TEXTBOOK: u32 = 22;
 
-#[derive(Default)]
+/// The numbers of a case.
+const HEAD: usize = 34;
+
 struct Case {
-    head: [u32; 32],
+    head: [u32; HEAD],
     body: Vec<u8>,
 }
 
@@ -92,7 +97,10 @@ fn halves(n: u64) -> [u32; 2] {
 
 impl Case {
     fn new(call: u32, (number, figures): (u32, [u64; 4])) -> Case {
-        let mut c = Case::default();
+        let mut c = Case {
+            head: [0; HEAD],
+            body: vec![],
+        };
         c.head[0] = call;
         c.head[1] = number;
         for (i, f) in figures.into_iter().enumerate() {
@@ -101,7 +109,7 @@ impl Case {
         c
     }
 
-    fn geometry(mut self, g: &Geometry, kind: Kind) -> Case {
+    fn geometry(mut self, g: &Geometry, last: u64, kind: Kind) -> Case {
         self.head[10..14].copy_from_slice(&[
             g.version as u32,
             g.block_size as u32,
@@ -113,6 +121,7 @@ impl Case {
             self.head[14 + i] = u32::from_be_bytes(w);
         }
         self.head[18] = kind.number();
+        self.head[32..].copy_from_slice(&halves(last));
         self
     }
 
@@ -153,9 +162,10 @@ struct Cases {
 }
 
 impl Cases {
-    /// Are there not yet `most` cases of the call with that answer?
+    /// Are there not yet `most` cases of the call with that answer? Those refused by
+    /// 30 come last (`sequence_cases`).
     fn wants(&self, call: u32, number: u32, most: usize) -> bool {
-        self.seen.get(&(call, number)).is_none_or(|&n| n < most)
+        number != 30 && self.seen.get(&(call, number)).is_none_or(|&n| n < most)
     }
 
     fn add(&mut self, c: Case) {
@@ -323,7 +333,7 @@ fn block_cases(r: &mut Random, cases: &mut Cases) {
         let g = blocks::geometry(r, bad);
         let kind = r.pick(&Kind::OLDER);
         let (block, level, b) = blocks::block(r, &g, kind, 512);
-        let c = block_case(&g, kind, block, level, &b);
+        let c = block_case(&g, sequence::last_lsn(&g), kind, block, level, &b);
         cases.add_wanted(c, 4);
         let bits = r.below(65);
         let n = if bits == 0 {
@@ -335,10 +345,10 @@ fn block_cases(r: &mut Random, cases: &mut Cases) {
     }
 }
 
-fn block_case(g: &Geometry, kind: Kind, block: u32, level: u16, b: &[u8]) -> Case {
-    let o = kinds::parse_block(g, kind, b, block, level);
+fn block_case(g: &Geometry, last: u64, kind: Kind, block: u32, level: u16, b: &[u8]) -> Case {
+    let o = sequence::parse_block(g, last, kind, b, block, level);
     let said = expect(&o, |h| blocks::header_figures(h, b));
-    let c = Case::new(4, said).geometry(g, kind);
+    let c = Case::new(4, said).geometry(g, last, kind);
     c.two(block, u32::from(level)).given(b, &[])
 }
 
@@ -352,7 +362,7 @@ fn plan_case(g: &Geometry, kind: Kind, records: u64) -> Case {
         }
         None => vec![FILL; 9 * 8],
     };
-    let mut c = Case::new(5, said).geometry(g, kind);
+    let mut c = Case::new(5, said).geometry(g, sequence::last_lsn(g), kind);
     c.head[21..23].copy_from_slice(&halves(records));
     c.given(&levels, &[])
 }
@@ -392,12 +402,23 @@ fn build_case(r: &mut Random, of: &[Kind]) -> Case {
     if r.below(10) == 0 {
         room -= 1 + r.below(20).min(room as u64 - 1) as usize;
     }
-    let o = links::build(&g, kind, &list, &numbers, room);
+    built_case(&g, sequence::last_lsn(&g), kind, &list, &numbers, room)
+}
+
+fn built_case(
+    g: &Geometry,
+    last: u64,
+    kind: Kind,
+    list: &[u8],
+    numbers: &[u32],
+    room: usize,
+) -> Case {
+    let o = links::build_at(g, last, kind, list, numbers, room);
     let said = expect(&o, |v| {
         [v.len() as u64 / g.block_size, v.len() as u64, 0, 0]
     });
-    let c = Case::new(6, said).geometry(&g, kind);
-    let c = c.given(&list, &number_bytes(&numbers));
+    let c = Case::new(6, said).geometry(g, last, kind);
+    let c = c.given(list, &number_bytes(numbers));
     c.output(0, room, &o.accepted().unwrap_or_default())
 }
 
@@ -433,15 +454,9 @@ fn walk_cases(r: &mut Random, cases: &mut Cases) {
     println!("walk_linked, of those done two each: {}", by.join("; "));
 }
 
-/// What the original makes of a walk, and whether the tree is linked.
+/// What the original makes of a walk, with 30, and whether the tree is linked.
 fn walked(w: &trees::SmallWalk) -> (bare::WalkAnswer, bool) {
-    let lent = paper::Lent {
-        record_bytes: w.bytes,
-        block_places: w.blocks,
-        stack_places: w.stack,
-        scratch_places: w.scratch,
-    };
-    let a = kinds::walk_blocks(&w.g, w.kind, &w.image, w.root, w.levels, &lent);
+    let a = w.due(&w.room().lent());
     let linked = match &a.outcome {
         Outcome::Accepted(walked) => links::linked(&w.g, &w.image, &walked.blocks),
         _ => false,
@@ -473,11 +488,11 @@ fn walk_case(
     };
     let mut places = number_bytes(&list);
     places.resize(4 * w.blocks, FILL);
-    let c = Case::new(call, said).geometry(&w.g, w.kind);
+    let c = Case::new(call, said).geometry(&w.g, w.last_lsn, w.kind);
     let c = c.two(w.root, w.levels).given(&w.image, &places);
     let mut c = c.output(0, w.bytes, &records);
     let stack = if call == TEXTBOOK { 0 } else { w.stack };
-    c.head[29..].copy_from_slice(&[u32::from(!early), stack as u32, w.scratch as u32]);
+    c.head[29..32].copy_from_slice(&[u32::from(!early), stack as u32, w.scratch as u32]);
     c
 }
 
@@ -529,7 +544,7 @@ fn lookup_cases(r: &mut Random, cases: &mut Cases) {
         "lookup, done two each, refused by 29 one: {}",
         by.join("; ")
     );
-    for n in lookups::ANSWERS {
+    for n in lookups::ANSWERS.into_iter().filter(|&n| n != 30) {
         assert!(cases.seen.contains_key(&(18, n)), "no lookup answers {n}");
     }
 }
@@ -541,7 +556,7 @@ fn lookup_case(l: &Lookup, due: &Due) -> Case {
         Left::Found(found) => found.clone(),
     };
     let answers: Vec<u8> = answers.iter().flat_map(|n| n.to_be_bytes()).collect();
-    let c = Case::new(18, (due.number, due.figures)).geometry(&l.g, Kind::RMAP);
+    let c = Case::new(18, (due.number, due.figures)).geometry(&l.g, l.last_lsn, Kind::RMAP);
     let c = c.two(l.root, l.levels);
     let c = c.given(&l.image, &number_bytes(&l.asked));
     let mut c = c.output(0, 8 * l.answers, &answers);
@@ -560,7 +575,7 @@ fn real_cases(files: &[String], cases: &mut Cases) {
         let name = real::file_name(file);
         for (n, b) in &t.stored {
             let level = u16::from(b[4]) * 256 + u16::from(b[5]);
-            let c = block_case(&t.g, t.kind, *n, level, b);
+            let c = block_case(&t.g, t.last_lsn, t.kind, *n, level, b);
             assert_eq!(c.head[1], 0, "a block of a real volume is good");
             cases.add(c);
         }
@@ -581,31 +596,37 @@ fn too_long(t: &real::RealTree) -> Option<u32> {
     (len > 1460 * 2048).then_some(last)
 }
 
-/// The walk of a real tree.
+/// The walk of a real tree, under its last number.
 fn real_walk(walk: Walk, call: u32, t: &real::RealTree) -> Case {
-    let n = t.records.len();
-    let linked = links::linked(&t.g, &t.image(), &t.blocks);
-    let figures = [
-        t.blocks.len() as u64,
-        (n / t.kind.record_len()) as u64,
-        n as u64,
-        walk.says(linked),
-    ];
-    let c = Case::new(call, (0, figures)).geometry(&t.g, t.kind);
+    let image = t.image();
+    let linked = links::linked(&t.g, &image, &t.blocks);
+    let a = sequence::walked(&t.g, t.last_lsn, &image, |image| {
+        kinds::bare_walk(&t.g, t.kind, image, t.root, t.levels)
+    });
+    let said = trees::walk_figures(&a, t.kind, walk.says(linked));
+    // What was printed of the tree, or zeros.
+    let (list, records) = match &a.outcome {
+        Outcome::Accepted(w) => {
+            assert!(w.blocks == t.blocks && w.records == t.records);
+            (t.blocks.clone(), t.records.clone())
+        }
+        _ => (vec![0; t.blocks.len()], vec![0; t.records.len()]),
+    };
+    let c = Case::new(call, said).geometry(&t.g, t.last_lsn, t.kind);
     let c = c.two(t.root, t.levels);
-    let mut c = c.given(&[], &number_bytes(&t.blocks));
+    let mut c = c.given(&[], &number_bytes(&list));
     for (n, b) in &t.stored {
         let place = n * t.g.block_size as u32;
         c.body.extend(place.to_be_bytes());
         c.body.extend(b);
     }
-    let mut c = c.output(0, n, &t.records);
+    let mut c = c.output(0, records.len(), &records);
     let stack = match walk {
         Walk::Textbook => 0,
         _ => kinds::STACK_PLACES,
     };
     c.head[21] = t.stored.len() as u32;
-    c.head[29..].copy_from_slice(&[1, stack as u32, t.blocks.len() as u32]);
+    c.head[29..32].copy_from_slice(&[1, stack as u32, t.blocks.len() as u32]);
     c
 }
 
@@ -618,6 +639,7 @@ fn stack_cases(cases: &mut Cases) {
         l.stack = stack;
         let w = trees::SmallWalk {
             g: l.g,
+            last_lsn: l.last_lsn,
             kind: Kind::RMAP,
             image: l.image.clone(),
             root: l.root,
@@ -679,7 +701,7 @@ fn free_tree_cases(r: &mut Random, cases: &mut Cases) {
             (2..=10, _) => [version, 0],
             _ => [0; 2],
         };
-        if shown.insert((call, number, by)) {
+        if number != 30 && shown.insert((call, number, by)) {
             cases.add(c);
         }
     };
@@ -690,7 +712,14 @@ fn free_tree_cases(r: &mut Random, cases: &mut Cases) {
         let kind = r.pick(of);
         kinds::some_version(r, kind, &mut g);
         let (block, level, b) = blocks::block(r, &g, kind, 512);
-        show(block_case(&g, kind, block, level, &b));
+        show(block_case(
+            &g,
+            sequence::last_lsn(&g),
+            kind,
+            block,
+            level,
+            &b,
+        ));
         let n = r.next() >> r.below(64);
         show(plan_case(&g, kind, n));
         show(build_case(r, of));
@@ -728,6 +757,7 @@ fn folded_walk(r: &mut Random, version: u64, kind: Kind, counts: &[usize]) -> tr
     let levels = counts.len() as u32;
     trees::SmallWalk {
         g,
+        last_lsn: sequence::last_lsn(&g),
         kind,
         image,
         root: levels - 1,
@@ -799,7 +829,7 @@ fn textbook_cases(files: &[String], cases: &mut Cases) {
     let mut w = folded_walk(&mut r, 4, Kind::BY_BLOCK, &two);
     w.bytes = 4 * 8 - 1;
     add(15, &w);
-    for n in textbook::ANSWERS {
+    for n in textbook::ANSWERS.into_iter().filter(|&n| n != 30) {
         let of = (TEXTBOOK, n);
         assert!(cases.seen.contains_key(&of), "no textbook walk answers {n}");
     }
@@ -808,6 +838,124 @@ fn textbook_cases(files: &[String], cases: &mut Cases) {
         if too_long(&t).is_none() {
             cases.add(real_walk(Walk::Textbook, TEXTBOOK + 1, &t));
         }
+    }
+}
+
+/// The calls of the walks by their numbers in a case: of an image, and of real blocks.
+const WALKS: [(Walk, u32, u32); 3] = [
+    (Walk::Plain, 7, 13),
+    (Walk::Linked, 16, 17),
+    (Walk::Textbook, TEXTBOOK, TEXTBOOK + 1),
+];
+
+/// Blocks and trees around the last sequence number. Of blocks of each kind those
+/// that 30 refuses, those with a number that is not above the last one, and those
+/// with another field wrong; of version 4 one with all ones at its place. Trees that
+/// are built with a number, read under a higher one, and read with a newer leaf. A
+/// real tree under one below its newest block's.
+fn sequence_cases(files: &[String], cases: &mut Cases) {
+    let r = &mut Random(2028);
+    let last = 0x0000_0007_0000_0032;
+    for kind in Kind::ALL {
+        // The number, what is added to the block number and the level asked for, and
+        // the answer.
+        for (lsn, block_more, level_more, number) in [
+            (last + 1, 0, 0, 30),
+            (u64::MAX, 0, 0, 30),
+            (0x0000_0008_0000_0031, 0, 0, 30),
+            (last, 0, 0, 0),
+            (0x0000_0006_0000_0033, 0, 0, 0),
+            (last + 1, 1, 0, 8),
+            (last + 1, 0, 1, 30),
+        ] {
+            let (g, mut b) = (sequence::good_geometry(r, 5), r.bytes(512));
+            let (block, level, n) = (r.below(1000) as u32, r.below(3) as u16, 2);
+            stamp(
+                &mut b,
+                &g.superblock(),
+                kind.shape(),
+                g.agno,
+                block,
+                level,
+                n,
+            );
+            b[24..32].copy_from_slice(&u64::to_be_bytes(lsn));
+            blocks::seal(&g, &mut b);
+            let (block, level) = (block + block_more, level + level_more);
+            let c = block_case(&g, last, kind, block, level, &b);
+            assert_eq!(c.head[1], number, "{kind:?} {lsn:#x}");
+            cases.add(c);
+        }
+    }
+    for kind in Kind::FREE {
+        let (g, mut b) = (sequence::good_geometry(r, 4), vec![0xFF; 512]);
+        stamp(&mut b, &g.superblock(), kind.shape(), g.agno, 9, 0, 2);
+        let c = block_case(&g, 0, kind, 9, 0, &b);
+        assert_eq!(c.head[1], 0, "{kind:?} of version 4");
+        cases.add(c);
+    }
+
+    let tree = |r: &mut Random, kind, version, cases: &mut Cases| {
+        sequence::built(r, kind, version, 2, last, |g, list, at, room| {
+            cases.add(built_case(g, last, kind, list, at, room));
+            links::build_at(g, last, kind, list, at, room).accepted()
+        })
+    };
+    let add = |(walk, call, _): (Walk, u32, u32), w: &trees::SmallWalk, cases: &mut Cases| {
+        let (a, linked) = walked(w);
+        let said = trees::walk_figures(&a, w.kind, walk.says(linked));
+        cases.add(walk_case(call, said, w, &a.outcome));
+        (said.0, a.visits)
+    };
+    let kinds = [Kind::BY_SIZE, Kind::REFCOUNT, Kind::BY_BLOCK];
+    for (of, kind) in WALKS.into_iter().zip(kinds) {
+        // The log has gone on since the tree was built.
+        let mut t = tree(r, kind, 5, cases);
+        t.w.last_lsn = last + 1;
+        assert_eq!(add(of, &t.w, cases).0, 0);
+        // Then its last leaf is newer than that.
+        let leaf = *t.met.last().expect("a leaf");
+        t.renumber(leaf, last + 2);
+        assert_eq!(add(of, &t.w, cases), (30, t.met.len() as u64));
+    }
+    let mut t = tree(r, Kind::RMAP, 5, cases);
+    t.w.last_lsn = u64::MAX;
+    let first = |n: u32| links::be32(links::block(&t.w.g, &t.w.image, n), 56);
+    let (low, high) = (first(t.met[1]), first(t.met[t.met.len() - 1]));
+    let l = t.asked(vec![low, high]);
+    let due = l.due();
+    assert_eq!(due.number, 0);
+    cases.add(lookup_case(&l, &due));
+    t.w.last_lsn = last;
+    t.renumber(t.met[t.met.len() - 1], 1 << 63);
+    let l = t.asked(vec![low, high]);
+    let due = l.due();
+    assert!(due.number == 30 && due.visited.len() > 2, "{due:?}");
+    cases.add(lookup_case(&l, &due));
+
+    // On version 4 the same bytes are a record, and any number is the last.
+    let mut t = tree(r, Kind::BY_SIZE, 4, cases);
+    t.w.last_lsn = 0;
+    t.renumber(t.met[1], u64::MAX);
+    for of in WALKS {
+        assert_eq!(add(of, &t.w, cases).0, 0);
+    }
+
+    // Where it can be, one that is refused past its root.
+    let trees = files.iter().flat_map(|f| real::read(f).into_iter());
+    let short = trees.filter(|t| too_long(t).is_none());
+    let below = |t: real::RealTree| t.newest().map(|n| t.at(n - 1));
+    let real: Vec<_> = short.filter_map(below).collect();
+    let past = |t: &&real::RealTree| real_walk(Walk::Plain, 13, t).head[7] > 1;
+    if let Some(t) = real.iter().find(past).or(real.first()) {
+        for (walk, _, call) in WALKS {
+            let c = real_walk(walk, call, t);
+            assert_eq!(c.head[1], 30, "one below its newest block's");
+            cases.add(c);
+        }
+    }
+    for call in [4, 7, 16, 18, TEXTBOOK] {
+        assert!(cases.seen.contains_key(&(call, 30)), "no {call} by 30");
     }
 }
 
@@ -828,12 +976,13 @@ pub fn sample(words: &[String]) {
     free_tree_cases(&mut r, &mut cases);
     stack_cases(&mut cases);
     textbook_cases(real, &mut cases);
+    sequence_cases(real, &mut cases);
     let mut out = Vec::new();
     for c in &cases.all {
         out.extend(number_bytes(&c.head));
         out.extend(&c.body);
     }
-    out.extend([0; 128]);
+    out.extend([0; 4 * HEAD]);
     std::fs::write(file, &out).unwrap_or_else(|e| panic!("{file}: {e}"));
     for (call, name) in (0..).zip(CALLS).skip(1) {
         let mine = cases.seen.iter().filter(|(k, _)| k.0 == call);

@@ -9,6 +9,7 @@ use crate::lent::Lent;
 use crate::library::{self, Said, Walk};
 use crate::links;
 use crate::lookups::{self, Lookup};
+use crate::sequence;
 use crate::tally::Tally;
 use crate::trees::{self, Memory, Room, SmallWalk};
 use oracle::ag_btree::reach::stamp;
@@ -17,7 +18,7 @@ use oracle::Geometry;
 use std::thread;
 
 /// Every answer that a walk can have.
-pub const ANSWERS: [u32; 15] = [0, 1, 3, 4, 5, 6, 7, 8, 9, 10, 11, 12, 13, 14, 15];
+pub const ANSWERS: [u32; 16] = [0, 1, 3, 4, 5, 6, 7, 8, 9, 10, 11, 12, 13, 14, 15, 30];
 
 /// The levels that a tree has at most.
 const LEVELS: u32 = 9;
@@ -91,13 +92,14 @@ impl Deep {
     fn on_other_stacks(&self, room: Room, tally: &mut Tally) {
         let Deep { g, kind, image, .. } = self;
         let (root, levels) = (self.levels - 1, self.levels);
+        let at = &library::g(g);
         for w in Walk::ALL {
             let mut m = [(); 3].map(|()| Memory::new(room));
             let [a, b, c] = &mut m;
-            let due = said(a.walk(w, g, *kind, image, root, levels));
-            let (deep, taken) = b.measured(w, g, *kind, image, root, levels);
+            let due = said(a.walk(w, at, *kind, image, root, levels));
+            let (deep, taken) = b.measured(w, at, *kind, image, root, levels);
             took(w.name(), taken, tally);
-            let small = on_a_small_stack(|| c.walk(w, g, *kind, image, root, levels));
+            let small = on_a_small_stack(|| c.walk(w, at, *kind, image, root, levels));
             assert_eq!(said(deep), due, "{w:?} {g:?} {kind:?} {room:?}: measured");
             assert_eq!(said(small), due, "{w:?} {g:?} {kind:?} {room:?}: small");
             assert!(*a == *b && *a == *c, "{w:?} {g:?} {kind:?} {room:?}: left");
@@ -111,6 +113,7 @@ impl Deep {
     fn lookup(&self, tally: &mut Tally) {
         let l = Lookup {
             g: self.g,
+            last_lsn: sequence::last_lsn(&self.g),
             image: self.image.clone(),
             root: self.levels - 1,
             levels: self.levels,
@@ -122,7 +125,7 @@ impl Deep {
         let mut stack = Lent::<u32>::new(l.stack);
         let mut answers = Lent::<u64>::new(l.answers);
         let (got, taken) = library::measured_lookup(
-            &library::g(&l.g),
+            &library::g(&l.g).at(l.last_lsn),
             &l.image,
             l.root,
             l.levels,
@@ -296,10 +299,13 @@ fn any_image(r: &mut Random) -> SmallWalk {
             level as u16,
             count as u16,
         );
+        sequence::not_newer(&g, b);
+        seal(&g, b);
     }
 
     let mut w = SmallWalk {
         g,
+        last_lsn: sequence::last_lsn(&g),
         kind,
         root: r.pick(&of(levels - 1)),
         levels,
@@ -351,12 +357,7 @@ fn otherwise(r: &mut Random, w: &mut SmallWalk, at: &[u32]) {
 fn any_images(r: &mut Random, times: u64, tally: &mut Tally) {
     for _ in 0..times {
         let w = any_image(r);
-        let room = Room {
-            stack: w.stack,
-            scratch: w.scratch,
-            blocks: w.blocks,
-            bytes: w.bytes,
-        };
+        let room = w.room();
         let walked = trees::one_walk(&w.g, w.kind, &w.image, w.root, w.levels, room, tally);
         if let Some((walked, _)) = walked {
             let blocks = walked.blocks;

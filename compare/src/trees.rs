@@ -8,6 +8,7 @@ use crate::lent::{hex, Lent};
 use crate::library::{self, Walk};
 use crate::links;
 use crate::lists;
+use crate::sequence;
 use crate::tally::{differ, Tally};
 use oracle::ag_btree::reach::stamp;
 use oracle::bare::{self, WalkAnswer, Walked};
@@ -134,7 +135,8 @@ pub fn list(r: &mut Random, kind: Kind, n: usize) -> Vec<u8> {
     }
 }
 
-/// A build beside the original's with the links put in; what it wrote.
+/// A build beside the original's with the links and the sequence number put in;
+/// what it wrote.
 pub fn one_build(
     g: &Geometry,
     kind: Kind,
@@ -143,15 +145,29 @@ pub fn one_build(
     room: usize,
     tally: &mut Tally,
 ) -> Option<Vec<u8>> {
+    one_build_at(g, sequence::last_lsn(g), kind, list, numbers, room, tally)
+}
+
+/// The same with another number.
+pub fn one_build_at(
+    g: &Geometry,
+    last: u64,
+    kind: Kind,
+    list: &[u8],
+    numbers: &[u32],
+    room: usize,
+    tally: &mut Tally,
+) -> Option<Vec<u8>> {
     let input = || {
         format!(
-            "build {g:?} {kind:?} room {room} numbers {numbers:?} list {}",
+            "build {g:?} last {last} {kind:?} room {room} numbers {numbers:?} list {}",
             hex(list)
         )
     };
-    let want = links::build(g, kind, list, numbers, room);
+    let want = links::build_at(g, last, kind, list, numbers, room);
     let mut out = Lent::<u8>::new(room);
-    let got = library::build(&library::g(g), kind.number(), list, numbers, out.part());
+    let at = library::g(g).at(last);
+    let got = library::build(&at, kind.number(), list, numbers, out.part());
     same(
         "build",
         &got,
@@ -273,6 +289,17 @@ pub struct Room {
     pub bytes: usize,
 }
 
+impl Room {
+    pub fn lent(&self) -> paper::Lent {
+        paper::Lent {
+            record_bytes: self.bytes,
+            block_places: self.blocks,
+            stack_places: self.stack,
+            scratch_places: self.scratch,
+        }
+    }
+}
+
 /// The walks of an image: what those on the stack gave, where they were done, and
 /// whether the tree is linked.
 pub fn one_walk(
@@ -284,13 +311,28 @@ pub fn one_walk(
     room: Room,
     tally: &mut Tally,
 ) -> Option<(Walked, bool)> {
-    let lent = paper::Lent {
-        record_bytes: room.bytes,
-        block_places: room.blocks,
-        stack_places: room.stack,
-        scratch_places: room.scratch,
+    let last = sequence::last_lsn(g);
+    one_walk_at(g, last, kind, image, root, levels, room, tally)
+}
+
+/// The same under another last sequence number.
+#[allow(clippy::too_many_arguments)]
+pub fn one_walk_at(
+    g: &Geometry,
+    last: u64,
+    kind: Kind,
+    image: &[u8],
+    root: u32,
+    levels: u32,
+    room: Room,
+    tally: &mut Tally,
+) -> Option<(Walked, bool)> {
+    let lent = room.lent();
+    let due = |lent: &paper::Lent| {
+        let walk = |image: &[u8]| kinds::walk_blocks(g, kind, image, root, levels, lent);
+        sequence::walked(g, last, image, walk)
     };
-    let want = kinds::walk_blocks(g, kind, image, root, levels, &lent);
+    let want = due(&lent);
     let linked = match &want.outcome {
         Outcome::Accepted(w) => links::linked(g, image, &w.blocks),
         _ => false,
@@ -299,11 +341,10 @@ pub fn one_walk(
     let without = match room.stack {
         0..STACK_PLACES => {
             let stack_places = usize::MAX;
-            let lent = &paper::Lent {
+            Some(due(&paper::Lent {
                 stack_places,
                 ..lent
-            };
-            Some(kinds::walk_blocks(g, kind, image, root, levels, lent))
+            }))
         }
         _ => None,
     };
@@ -315,13 +356,14 @@ pub fn one_walk(
         };
         let input = || {
             format!(
-                "{} {g:?} {kind:?} root {root} levels {levels} {room:?} image {}",
+                "{} {g:?} last {last} {kind:?} root {root} levels {levels} {room:?} image {}",
                 w.name(),
                 hex(image)
             )
         };
         let mut m = Memory::new(room);
-        let got = m.walk(w, g, kind, image, root, levels);
+        let at = library::g(g).at(last);
+        let got = m.walk(w, &at, kind, image, root, levels);
         let due = walk_figures(want, kind, w.says(linked));
         same(w.name(), &got, due, &input);
         for (what, r) in m.left(w, want) {
@@ -376,7 +418,7 @@ impl Memory {
     pub fn walk(
         &mut self,
         w: Walk,
-        g: &Geometry,
+        g: &library::G,
         kind: Kind,
         image: &[u8],
         root: u32,
@@ -384,7 +426,7 @@ impl Memory {
     ) -> library::Said {
         library::walk(
             w,
-            &library::g(g),
+            g,
             kind.number(),
             image,
             root,
@@ -400,7 +442,7 @@ impl Memory {
     pub fn measured(
         &mut self,
         w: Walk,
-        g: &Geometry,
+        g: &library::G,
         kind: Kind,
         image: &[u8],
         root: u32,
@@ -408,7 +450,7 @@ impl Memory {
     ) -> (library::Said, usize) {
         library::measured_walk(
             w,
-            &library::g(g),
+            g,
             kind.number(),
             image,
             root,
@@ -680,6 +722,7 @@ pub fn shared_children(r: &mut Random, of: &[Kind], times: u64, tally: &mut Tall
 /// A walk over a small image, with what it is lent.
 pub struct SmallWalk {
     pub g: Geometry,
+    pub last_lsn: u64,
     pub kind: Kind,
     pub image: Vec<u8>,
     pub root: u32,
@@ -688,6 +731,24 @@ pub struct SmallWalk {
     pub scratch: usize,
     pub blocks: usize,
     pub bytes: usize,
+}
+
+impl SmallWalk {
+    pub fn room(&self) -> Room {
+        Room {
+            stack: self.stack,
+            scratch: self.scratch,
+            blocks: self.blocks,
+            bytes: self.bytes,
+        }
+    }
+
+    /// What the walk is to come to with so much lent.
+    pub fn due(&self, lent: &paper::Lent) -> WalkAnswer {
+        sequence::walked(&self.g, self.last_lsn, &self.image, |image| {
+            kinds::walk_blocks(&self.g, self.kind, image, self.root, self.levels, lent)
+        })
+    }
 }
 
 /// A tree of a few blocks of 512 bytes, mostly damaged in some way.
@@ -715,6 +776,7 @@ pub fn small_walk(r: &mut Random, of: &[Kind]) -> SmallWalk {
     let mut levels = plan.len() as u32;
     let mut w = SmallWalk {
         g,
+        last_lsn: sequence::last_lsn(&g),
         kind,
         stack: kinds::enough(r, &g, kind, levels),
         scratch: total + 1,

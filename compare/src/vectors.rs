@@ -5,16 +5,18 @@
 
 use crate::edits;
 use crate::held;
-use crate::kinds::{self, Kind, STACK_PLACES};
+use crate::kinds::{Kind, STACK_PLACES};
 use crate::lent::hex;
 use crate::library::Edit;
 use crate::links;
 use crate::lookups::{self, Lookup};
+use crate::sequence;
 use crate::tally::{differ, Tally};
-use crate::trees;
+use crate::trees::{self, SmallWalk};
 use kf::{Group, Refusal, Root};
 use oracle::alloc_btree::Order;
 use oracle::paper;
+use oracle::refusal::Outcome;
 use oracle::rmap::Rmap;
 use oracle::sample::Random;
 use oracle::{Geometry, Tree};
@@ -38,6 +40,7 @@ pub fn geometry(g: &Geometry) -> kf::Geometry {
         g.agno,
         g.meta_uuid,
     )
+    .with_last_lsn(sequence::last_lsn(g))
 }
 
 pub fn extent(x: Rmap) -> kf::Rmap {
@@ -165,9 +168,12 @@ pub fn build(r: &mut Random, of: &[Kind], tally: &mut Tally) {
     tally.add("Tree::build", got.err().unwrap_or(0));
 }
 
-/// A walk by each of the two calls.
 pub fn walk(r: &mut Random, of: &[Kind], tally: &mut Tally) {
-    let w = trees::small_walk(r, of);
+    one_walk(&trees::small_walk(r, of), tally);
+}
+
+/// A walk by each of the two calls.
+pub fn one_walk(w: &SmallWalk, tally: &mut Tally) {
     // What the layer has room for.
     let size = w.g.block_size as usize;
     let limit = w.g.agblocks.max(64) as usize;
@@ -177,59 +183,78 @@ pub fn walk(r: &mut Random, of: &[Kind], tally: &mut Tally) {
         block_places: most,
         ..paper::Lent::PLENTY
     };
-    let due = kinds::walk_blocks(&w.g, w.kind, &w.image, w.root, w.levels, &lent);
-    let due = match due.outcome.number() {
-        Some(n) => Err((u32::from(n), due.visits as usize)),
-        None => {
-            let v = due.outcome.accepted().expect("a walk");
+    let due = w.due(&lent);
+    let due = match due.outcome {
+        Outcome::Accepted(v) => {
             let linked = links::linked(&w.g, &w.image, &v.blocks);
             Ok((v.blocks, v.records, linked))
         }
+        refused => Err(refused_by(&refused, due.visits)),
     };
     let root = Root::new(w.root, w.levels, w.blocks as u32);
-    let by_walk = kf::Tree::walk(&geometry(&w.g), kind(w.kind), &w.image, root)
+    let g = &geometry(&w.g).with_last_lsn(w.last_lsn);
+    let by_walk = kf::Tree::walk(g, kind(w.kind), &w.image, root)
         .map(|t| (t.blocks, t.records, t.linked))
-        .map_err(|refused| (refused.refusal.number, refused.visits));
+        .map_err(why);
     // This one does not say whether the tree is linked.
     let linked = due.as_ref().is_ok_and(|d| d.2);
-    let textbook = kf::Tree::walk_textbook(&geometry(&w.g), kind(w.kind), &w.image, root)
+    let textbook = kf::Tree::walk_textbook(g, kind(w.kind), &w.image, root)
         .map(|t| (t.blocks, t.records, linked))
-        .map_err(|refused| (refused.refusal.number, refused.visits));
+        .map_err(why);
     for (call, got) in [("Tree::walk", by_walk), ("Tree::walk_textbook", textbook)] {
         if got != due {
             let (say, image) = (format!("{got:02x?}"), hex(&w.image));
             let input = format!(
-                "{:?} {:?} root {} levels {} blocks {} image {image}",
-                w.g, w.kind, w.root, w.levels, w.blocks
+                "{:?} last {} {:?} root {} levels {} blocks {} image {image}",
+                w.g, w.last_lsn, w.kind, w.root, w.levels, w.blocks
             );
             differ(call, "result", &say, &format!("{due:02x?}"), &input);
         }
-        tally.add(call, got.err().map_or(0, |(n, _)| n));
+        tally.add(call, got.err().map_or(0, |(n, ..)| n));
     }
 }
 
+/// The number of a refused walk or lookup, its two values and its visits.
+type Why = (u32, [u64; 2], usize);
+
+fn why(refused: kf::WalkRefusal) -> Why {
+    let values = refused.refusal.values;
+    let two = values.map_or([0; 2], |v| [v.expected, v.found]);
+    (refused.refusal.number, two, refused.visits)
+}
+
+/// The same as it is due.
+fn refused_by<T>(outcome: &Outcome<T>, visits: u64) -> Why {
+    let (number, [expected, found, ..]) = edits::expect(outcome, |_| [0; 4]);
+    (number, [expected, found], visits as usize)
+}
+
 fn lookup(r: &mut Random, tally: &mut Tally) {
-    let mut l = lookups::small(r);
+    one_lookup(lookups::small(r), tally);
+}
+
+/// A lookup, with what the layer lends.
+pub fn one_lookup(mut l: Lookup, tally: &mut Tally) {
     // The layer lends as many places of the stack as 12 asks for, and a place for
     // each number.
     l.stack = STACK_PLACES;
     l.answers = l.asked.len();
-    let Lookup { g, image, .. } = &l;
     let root = Root::new(l.root, l.levels, 0);
-    let got = kf::Tree::lookup(&geometry(g), image, root, &l.asked)
+    let g = geometry(&l.g).with_last_lsn(l.last_lsn);
+    let got = kf::Tree::lookup(&g, &l.image, root, &l.asked)
         .map(|found| (found.holders, found.visits))
-        .map_err(|refused| (refused.refusal.number, refused.visits));
+        .map_err(why);
     let due = l.due();
     let visits = due.visited.len();
     let due = match due.left {
         lookups::Left::Found(answers) => Ok((answers, visits)),
-        _ => Err((due.number, visits)),
+        _ => Err((due.number, [due.figures[0], due.figures[1]], visits)),
     };
     if got != due {
         let (say, told) = (format!("{got:?}"), format!("{due:?}"));
         differ("Tree::lookup", "result", &say, &told, &l.input());
     }
-    tally.add("Tree::lookup", got.err().map_or(0, |(n, _)| n));
+    tally.add("Tree::lookup", got.err().map_or(0, |(n, ..)| n));
 }
 
 pub fn vectors(r: &mut Random, scale: u64, tally: &mut Tally) {
