@@ -112,7 +112,7 @@ impl Tree {
     /// let mut image = [0; 4 * 512];
     /// build(&g, Kind::Rmap, &list, &numbers, &mut image).unwrap();
     /// let tree = Tree::walk(&g, Kind::Rmap, &image, Root::new(3, 2, 4)).unwrap();
-    /// assert_eq!((tree.blocks, tree.records), (numbers.to_vec(), list));
+    /// assert_eq!((tree.blocks, tree.records), (numbers.to_vec(), list.clone()));
     /// assert!(tree.linked);
     /// // The same with room for three blocks.
     /// let refused = Tree::walk(&g, Kind::Rmap, &image, Root::new(3, 2, 3)).unwrap_err();
