@@ -145,7 +145,8 @@
 //! Under both lie what made the archives (the Rattle kit), the Rust compiler
 //! and the linker. That the geometry, the root and the image are those of the
 //! group is the caller's to see to, the last sequence number of the log among them,
-//! and so is that the reverse map and the shared counts agree: what a let go says is free goes by the counts, and no call asks
+//! and so is that the reverse map and the shared counts agree: what a let go says is
+//! free goes by the counts, and no call asks
 //! whether a shared record of n owners lies over a block exactly where n records
 //! of the reverse map, two or more, do. Takes and lets go keep lists that agree so
 //! (that is proved), [`insert_shared`], [`remove`] and [`release`] by themselves do
