@@ -280,78 +280,31 @@ fn free_space_damaged() {
     show_hurt(b"by-size records, 5", 5, TreeKind::BySize, 7, 39, true);
 }
 
+// Such a node of the reverse map, where it stands.
+fn show_under(name: &[u8], last: u64) {
+    show_later(name, 5, TreeKind::Rmap, last, 7, 1);
+}
+
 // The node has the number 0x2122232425262728.
-fn sequence_numbers() {
-    show_later(
-        b"its own number",
-        5,
-        TreeKind::Rmap,
-        0x2122232425262728,
-        7,
-        1,
-    );
-    show_later(b"one higher", 5, TreeKind::Rmap, 0x2122232425262729, 7, 1);
-    show_later(b"one lower", 5, TreeKind::Rmap, 0x2122232425262727, 7, 1);
-    show_later(b"no number", 5, TreeKind::Rmap, 0, 7, 1);
-    show_later(b"the highest", 5, TreeKind::Rmap, 0xFFFFFFFFFFFFFFFF, 7, 1);
-    show_later(
-        b"upper half lower",
-        5,
-        TreeKind::Rmap,
-        0x21222323FFFFFFFF,
-        7,
-        1,
-    );
-    show_later(
-        b"lower half lower",
-        5,
-        TreeKind::Rmap,
-        0x2122232500000000,
-        7,
-        1,
-    );
-    show_later(b"from 2^63 on", 5, TreeKind::Rmap, 0x8000000000000000, 7, 1);
-    show_later(
-        b"one lower, counts",
-        5,
-        TreeKind::Refcount,
-        0x2122232425262727,
-        7,
-        1,
-    );
-    show_later(
-        b"one lower, by block",
-        5,
-        TreeKind::ByBlock,
-        0x2122232425262727,
-        7,
-        1,
-    );
-    show_later(
-        b"one lower, by size",
-        5,
-        TreeKind::BySize,
-        0x2122232425262727,
-        7,
-        1,
-    );
-    show_later(
-        b"one lower, as block 8",
-        5,
-        TreeKind::Rmap,
-        0x2122232425262727,
-        8,
-        1,
-    );
-    show_later(
-        b"one lower, as leaf",
-        5,
-        TreeKind::Rmap,
-        0x2122232425262727,
-        7,
-        0,
-    );
+fn under_other_numbers() {
+    show_under(b"its own number", 0x2122232425262728);
+    show_under(b"one higher", 0x2122232425262729);
+    show_under(b"one lower", 0x2122232425262727);
+    show_under(b"no number", 0);
+    show_under(b"the highest", 0xFFFFFFFFFFFFFFFF);
+    show_under(b"upper half lower", 0x21222323FFFFFFFF);
+    show_under(b"lower half lower", 0x2122232500000000);
+    show_under(b"from 2^63 on", 0x8000000000000000);
+    let lower = 0x2122232425262727;
+    show_later(b"one lower, counts", 5, TreeKind::Refcount, lower, 7, 1);
+    show_later(b"one lower, by block", 5, TreeKind::ByBlock, lower, 7, 1);
+    show_later(b"one lower, by size", 5, TreeKind::BySize, lower, 7, 1);
+    show_later(b"one lower, as block 8", 5, TreeKind::Rmap, lower, 8, 1);
+    show_later(b"one lower, as leaf", 5, TreeKind::Rmap, lower, 7, 0);
     show_later(b"no number, 4", 4, TreeKind::ByBlock, 0, 7, 1);
+}
+
+fn other_numbers() {
     show_damaged(b"sequence number", 31, 0x29, true);
     show_damaged(b"sequence number's first byte", 24, 0xFF, true);
     show_damaged(b"sequence number, lower", 24, 0x20, true);
@@ -363,7 +316,8 @@ fn main() {
     accepted();
     short();
     damaged();
-    sequence_numbers();
+    under_other_numbers();
+    other_numbers();
     free_space();
     free_space_taken();
     free_space_damaged();

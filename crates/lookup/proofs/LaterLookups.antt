@@ -2,9 +2,8 @@
 -- Assumes nothing.
 use Prim.Native.Nat.{ℕ, _-_, _≤_, max}
 use native.Mathlib.Omega.{arith}
-use mathlib.Core.Path.{_≡_, refl, sym, ap, _∙_}
+use mathlib.Core.Path.{_≡_, refl, ap, _∙_}
 use mathlib.Core.List.{List, [], _∷_}
-use Rattle.codec.specs.Question.{done}
 use Rattle.codec.proofs.Meaning.{done-means}
 use Rattle.blocks.specs.declared.geometry.Geometry.{Geometry}
 use Rattle.blocks.specs.declared.kind.TreeKind.the-variants as kind
@@ -14,7 +13,7 @@ use Rattle.walks.specs.Walk.{Visit, visitOf, Look, good, bad, Trace, run, endin
 use Rattle.walks.specs.Shapes.{shapeOf}
 use Rattle.walks.specs.WalkCall.{stackPlaces}
 use Rattle.walks.proofs.LaterWalks.{run-alike, look-later}
-use Rattle.lookup.specs.Lookup.{keeps, keptFrom, without, lookAsked, lookupQuestions, descentOf, lookupOf}
+use Rattle.lookup.specs.Lookup.{keeps, without, lookAsked, lookupQuestions, descentOf}
 use Rattle.lookup.specs.Claims.{EveryLaterLookup}
 
 module _ (g : Geometry) (n : ℕ) (higher : g .«last_lsn» ≤ n) (image asked : List ℕ) where

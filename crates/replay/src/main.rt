@@ -236,7 +236,67 @@ fn textbook_by(
     )
 }
 
-// The walk of a case, by the textbook, by the call that asks about links too or by the one that does neither.
+// The walk of a case that asks about links too.
+fn linked_by(
+    head: &[u8],
+    image: &[u8],
+    stack: &mut [u32],
+    scratch: &mut [u64],
+    blocks: &mut [u32],
+    records: &mut [u8],
+    said: &mut [u64; 4],
+) -> u32 {
+    kf_walk_linked(
+        narrow(head, 10),
+        number(head, 11),
+        number(head, 12),
+        number(head, 13),
+        wide(head, 14),
+        wide(head, 16),
+        wide(head, 32),
+        number(head, 18),
+        image,
+        number(head, 19),
+        number(head, 20),
+        stack,
+        scratch,
+        blocks,
+        records,
+        said,
+    )
+}
+
+// The walk of a case over a stack.
+fn stack_by(
+    head: &[u8],
+    image: &[u8],
+    stack: &mut [u32],
+    scratch: &mut [u64],
+    blocks: &mut [u32],
+    records: &mut [u8],
+    said: &mut [u64; 4],
+) -> u32 {
+    kf_walk(
+        narrow(head, 10),
+        number(head, 11),
+        number(head, 12),
+        number(head, 13),
+        wide(head, 14),
+        wide(head, 16),
+        wide(head, 32),
+        number(head, 18),
+        image,
+        number(head, 19),
+        number(head, 20),
+        stack,
+        scratch,
+        blocks,
+        records,
+        said,
+    )
+}
+
+// The walk of a case, by whichever of the three calls it is.
 fn walk_by(
     head: &[u8],
     image: &[u8],
@@ -246,58 +306,11 @@ fn walk_by(
     records: &mut [u8],
     said: &mut [u64; 4],
 ) -> u32 {
-    let version = narrow(head, 10);
-    let blocksize = number(head, 11);
-    let agblocks = number(head, 12);
-    let agno = number(head, 13);
-    let high = wide(head, 14);
-    let low = wide(head, 16);
-    let last = wide(head, 32);
-    let kind = number(head, 18);
-    let root = number(head, 19);
-    let levels = number(head, 20);
-    let call = number(head, 0);
-    if call == 22 || call == 23 {
-        return textbook_by(head, image, scratch, blocks, records, said);
+    match number(head, 0) {
+        22 | 23 => textbook_by(head, image, scratch, blocks, records, said),
+        16 | 17 => linked_by(head, image, stack, scratch, blocks, records, said),
+        _ => stack_by(head, image, stack, scratch, blocks, records, said),
     }
-    if call == 16 || call == 17 {
-        return kf_walk_linked(
-            version,
-            blocksize,
-            agblocks,
-            agno,
-            high,
-            low,
-            last,
-            kind,
-            image,
-            root,
-            levels,
-            stack,
-            scratch,
-            blocks,
-            records,
-            said,
-        );
-    }
-    kf_walk(
-        version,
-        blocksize,
-        agblocks,
-        agno,
-        high,
-        low,
-        last,
-        kind,
-        image,
-        root,
-        levels,
-        stack,
-        scratch,
-        blocks,
-        records,
-        said,
-    )
 }
 
 // A walk, and what it leaves in both scratches: zeros, or what was there before it.

@@ -15,8 +15,8 @@ use Rattle.blocks.specs.declared.check.Header.{Header}
 use Rattle.blocks.specs.Geometry.{withLsn}
 use Rattle.blocks.specs.Check.{checkBlock}
 use Rattle.blocks.proofs.Later.{later-geometry, later-passes}
-use Rattle.walks.specs.Walk.{Visit, visitOf, Look, good, bad, Trace, finished, met, after, run, fit, ending, Shape, blockIn, under, lookOf, lookIn}
-use Rattle.walks.specs.WalkCall.{Lent, walkIn, walkQuestions, walkOf}
+use Rattle.walks.specs.Walk.{Visit, visitOf, Look, good, bad, Trace, finished, met, after, run, fit, ending, blockIn, under, lookOf, lookIn}
+use Rattle.walks.specs.WalkCall.{walkIn, walkQuestions}
 use Rattle.walks.specs.Shapes.{numrecsOf, shapeOf}
 use Rattle.walks.specs.Later.{EveryLaterWalk}
 use Rattle.walks.proofs.FinishedWalks.{fit-finished}
