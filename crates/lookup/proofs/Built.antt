@@ -33,7 +33,8 @@ use Rattle.trees.proofs.BuiltReturned.{whole-records}
 use Rattle.lookup.specs.Claims.{KeysTheirs, Agrees, EveryBuilt, EveryBuiltLookup}
 use Rattle.lookup.specs.Lookup.{lookupOf}
 use Rattle.lookup.proofs.KeyStarts.{accepted-bounded}
-use Rattle.walks.proofs.LaterWalks.{every-later-walk}
+use Rattle.walks.specs.Later.{NoneNewer}
+use Rattle.walks.proofs.LaterWalks.{finished-known, every-later-walk}
 use Rattle.lookup.proofs.Looked.{every-lookup}
 use Rattle.lookup.proofs.LaterLookups.{every-later-lookup}
 use Rattle.lookup.proofs.BuiltKeys.{Fine, walked-alone, KeyedWhole, plan-keyed}
@@ -111,10 +112,12 @@ every-built-lookup g list numbers bytes image out m places asked room st long q 
     let a : Agrees (recordsOf rmaps list) (visits (b .0)) asked (lookupOf g image (rootOf numbers) levels places asked room) =
     subst (λ (l : List ℕ). Agrees (recordsOf rmaps l) (visits (b .0)) asked (lookupOf g image (rootOf numbers) levels places asked room)) (b .1 .1)
     (every-lookup g image (rootOf numbers) levels m (b .0) places asked room (b .1 .0) q) in
-    let same : lookupOf g image (rootOf numbers) levels places asked room ≡ lookupOf (withLsn g n) image (rootOf numbers) levels places asked room =
-    a .admitted ∙ sym (every-later-lookup g image (rootOf numbers) levels places asked room (a .descent) n higher (a .admitted) (a .finishes)) in (
+    let same : lookupOf (withLsn g n) image (rootOf numbers) levels places asked room ≡ lookupOf g image (rootOf numbers) levels places asked room =
+    every-later-lookup g image (rootOf numbers) levels places asked room n higher
+    (subst NoneNewer (sym (a .admitted)) (finished-known (a .descent) (a .finishes))) in (
       b .0,
-      every-later-walk g kind.Rmap image (rootOf numbers) levels m (b .0) n higher (b .1 .0 .walked) (b .1 .0 .ended),
+      every-later-walk g kind.Rmap image (rootOf numbers) levels m n higher (subst NoneNewer (sym (b .1 .0 .walked)) (finished-known (b .0) (b .1 .0 .ended)))
+          ∙ b .1 .0 .walked,
       b .1 .0 .ended,
-      subst (Agrees (recordsOf rmaps list) (visits (b .0)) asked) same a,
+      subst (Agrees (recordsOf rmaps list) (visits (b .0)) asked) (sym same) a,
     )

@@ -2,7 +2,7 @@
 -- Assumes nothing.
 use Prim.Native.Nat.{ℕ, zero, suc, _+_}
 use native.Mathlib.Omega.{arith}
-use mathlib.Core.Path.{_≡_, refl, ap, _∙_}
+use mathlib.Core.Path.{_≡_, refl, sym, ap, _∙_, subst}
 use mathlib.Core.List.{List, [], _∷_}
 use lib.ListN.{replicate}
 use Rattle.codec.specs.Bytes as bytes
@@ -36,6 +36,9 @@ use Rattle.lookup.specs.Lookup.{tallies, lookupOf, answersAfter}
 use Rattle.lookup.specs.Claims.{Searchable, Askable, Standing, largerLookupOf}
 use Rattle.lookup.proofs.Looked.{every-lookup-stack, every-accepted-lookup}
 use Rattle.lookup.proofs.Built.{every-built, every-built-lookup}
+use Rattle.walks.specs.Later.{NoneNewer}
+use Rattle.walks.proofs.LaterWalks.{finished-known}
+use Rattle.lookup.proofs.LaterLookups.{every-later-lookup}
 
 -- from block b on, at every fourth block two records: two blocks of owner 7, and three of owner 9
 unfoldable pub shared : ℕ → ℕ → List Rmap
@@ -114,6 +117,12 @@ unfolding shared bytes.beBytes records.fieldBytes records.bytesOf tree.headerLen
 later-lookup l =
     let a = every-built-lookup small list numbers (builtBytes small kind.Rmap list numbers) image 1536 room 18 asked 6 standing long-enough askable 7 (omega arith) .3 in
     a .answers l ∙ ap (bytes.withBytes l 0) counted
+
+-- the lookup that 30 did not refuse under 5 comes to the same under 7
+pub later-same : lookupOf (withLsn small 7) image 2 2 18 asked 6 ≡ lookupOf small image 2 2 18 asked 6
+later-same =
+    every-later-lookup small image 2 2 18 asked 6 7 (omega arith)
+    (subst NoneNewer (sym (small-lookup .1)) (finished-known (small-lookup .0) (small-lookup .2)))
 
 -- on 18 places it is what it was on the 40 that two levels took before, and there it is what it was
 pub small-before : lookupOf small image 2 2 18 asked 6 ≡ largerLookupOf small image 2 2 40 asked 6

@@ -21,6 +21,7 @@ use Rattle.walks.specs.Shapes.{shapeOf}
 use Rattle.walks.specs.Path.{childAt, fanOf}
 use Rattle.walks.specs.WalkCall.{Lent, stackPlaces, walkOf}
 use Rattle.walks.specs.LargerStack.{largerStack}
+use Rattle.walks.specs.Later.{NoneNewer}
 use Rattle.trees.specs.Build.{rootOf, AreNumbers, Holds}
 use Rattle.trees.specs.BuildCall.{buildOutcome}
 use Rattle.trees.specs.RoundTrip.{levelsFor, LongEnough}
@@ -91,13 +92,12 @@ EveryLookup =
     → Askable places asked room
     → Agrees (recordsOf rmaps (records t)) (visits t) asked (lookupOf g image root levels places asked room)
 
--- a lookup that comes to its end under one sequence number comes to the same under every higher one
+-- a lookup that 30 did not refuse under one sequence number comes to the same under every higher one, refused or not
 abbrev pub EveryLaterLookup : Type 0
 EveryLaterLookup =
-    (g : Geometry) (image : List ℕ) (root levels places : ℕ) (asked : List ℕ) (room : ℕ) (d : Trace) (n : ℕ)
-    → g .«last_lsn» ≤ n
-    → lookupOf g image root levels places asked room ≡ done d → ending d ≡ finished
-    → lookupOf (withLsn g n) image root levels places asked room ≡ done d
+    (g : Geometry) (image : List ℕ) (root levels places : ℕ) (asked : List ℕ) (room n : ℕ)
+    → g .«last_lsn» ≤ n → NoneNewer (lookupOf g image root levels places asked room)
+    → lookupOf (withLsn g n) image root levels places asked room ≡ lookupOf g image root levels places asked room
 
 -- ---- in a tree that was built
 

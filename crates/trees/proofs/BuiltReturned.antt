@@ -26,7 +26,8 @@ use Rattle.trees.specs.Build.{planOf, build, rootOf, AreNumbers, Holds, 
 use Rattle.walks.specs.Shapes.{shapeOf}
 use Rattle.trees.specs.BuildCall.{layoutOf, buildQuestions, builtBytes, buildOutcome}
 use Rattle.trees.specs.RoundTrip.{levelsFor, LongEnough, walkBack, Returned, EveryTree}
-use Rattle.walks.proofs.LaterWalks.{every-later-walk}
+use Rattle.walks.specs.Later.{NoneNewer}
+use Rattle.walks.proofs.LaterWalks.{finished-known, every-later-walk}
 use Rattle.trees.proofs.TreeKinds.{sound}
 use Rattle.trees.proofs.Stored.{Made, output-length, build-made, held-blocks, stored-held}
 use Rattle.trees.proofs.WalkedBack.{Back, built-returned}
@@ -107,7 +108,8 @@ module _
         let some : 1 ≤ levels = plan-some g kind list in
         let first : walkBack g kind list numbers image m ≡ done v =
         rw (ok, le-leb 1 levels some, le-leb levels 9 few, le-leb stackPlaces (m .stack) (long .stack), le-leb (m .blocks) (m .scratch) (long .scratch), fit-same) in
-        let is : walkBack (withLsn g n) kind list numbers image m ≡ done v = every-later-walk g kind image (rootOf numbers) levels m v n higher first (back .ended) in
+        let is : walkBack (withLsn g n) kind list numbers image m ≡ done v =
+        every-later-walk g kind image (rootOf numbers) levels m n higher (subst NoneNewer (sym first) (finished-known v (back .ended))) ∙ first in
         record {
           reported =
               ap (report (recordLen kind)) is

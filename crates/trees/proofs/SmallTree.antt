@@ -37,6 +37,8 @@ use Rattle.trees.proofs.BuiltReturned.{finished-after, stored-returned}
 use Rattle.trees.proofs.BuiltBytes.{built-bytes, stored-bytes}
 use Rattle.walks.proofs.FinishedWalks.{every-walk}
 use Rattle.walks.proofs.OneLink.{one-link-wrong}
+use Rattle.walks.specs.Later.{NoneNewer}
+use Rattle.walks.proofs.LaterWalks.{finished-known, every-later-walk}
 
 abbrev pub small : Geometry
 small = record { version = 5; blocksize = 512; agblocks = 3; agno = 0; «meta_uuid» = replicate 16 0; «last_lsn» = 5 }
@@ -104,6 +106,12 @@ small-walk = ap (λ (p : Report). p .outcome) (returned .reported)
 pub later-walk : report 12 (walkOf (withLsn small 7) kind.Refcount image 2 2 room) .outcome ≡ done (record { visits = 3; records = 39; bytes = 468 })
 unfolding counted bytes.beBytes records.fieldBytes records.bytesOf tree.headerLen plan.ceil plan.leaves plan.above plan.levelsOf
 later-walk = ap (λ (p : Report). p .outcome) (returned-at 7 (omega arith) .reported)
+
+-- the walk that 30 did not refuse under 5 comes to the same under 7
+pub later-same : walkOf (withLsn small 7) kind.Refcount image 2 2 room ≡ walkOf small kind.Refcount image 2 2 room
+later-same =
+    let f = every-walk small kind.Refcount image 2 2 room .finishes 12 (record { visits = 3; records = 39; bytes = 468 }) small-walk in
+    every-later-walk small kind.Refcount image 2 2 room 7 (omega arith) (subst NoneNewer (sym (f .1)) (finished-known (f .0) (f .2)))
 
 -- so it read a tree
 pub small-read : (t : Trace) × (walkOf small kind.Refcount image 2 2 room ≡ done t) × ReadTree (lookIn (shapeOf small kind.Refcount) image) (visitOf 2 1) t

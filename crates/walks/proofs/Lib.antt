@@ -13,6 +13,7 @@ pub mod ForestLaws
 pub mod WalkMeaning
 pub mod WalkReasons
 pub mod FinishedWalks
+pub mod Following
 pub mod LaterWalks
 pub mod OneLink
 pub mod Steps

@@ -30,21 +30,7 @@ use Rattle.walks.specs.Shapes.{shapeOf, headerIn}
 use Rattle.walks.specs.WalkCall.{ifFinished, Lent, walkIn, walkQuestions, walkOf}
 use Rattle.walks.specs.Links.{next, linked, levelsLinked, leftsibOf, rightsibOf, saysLinked, relinkedIn, OneLinkWrong}
 use Rattle.walks.proofs.LookLaws.{look-header, header-good, part-long}
-
--- ---- the walk goes by its looks alone
-
-module _ (look look′ : Visit → Look) (same : (v : Visit) → look′ v ≡ look v) where
-  run-same : (n : ℕ) (due : List Visit) → run look′ n due ≡ run look n due
-  unfolding run
-  run-same zero [] = refl
-  run-same zero (v ∷ due) = refl
-  run-same (suc n) [] = refl
-  run-same (suc n) (v ∷ due) = ap (after v (λ below. run look′ n (below ++ due))) (same v) ∙ go (look v) (run-same n)
-    where
-      go : (l : Look) → ((ws : List Visit) → run look′ n ws ≡ run look n ws)
-          → after v (λ below. run look′ n (below ++ due)) l ≡ after v (λ below. run look n (below ++ due)) l
-      go (bad m x) later = refl
-      go (good below bytes) later = ap (met v bytes) (later (below ++ due))
+use Rattle.walks.proofs.Following.{run-same}
 
 -- ---- every block visited was good
 
