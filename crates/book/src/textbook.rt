@@ -66,10 +66,10 @@ fn read_tree(
     }
 }
 
-// Walks a tree of a group from its root as textbooks have it: one routine reads a block, another its children from left to right. It gives what `walk` of
-// crate `walks` gives on a stack of 18 places or more, refused or not (`EveryTextbook` of specs/Textbook.antt), and is lent no stack. Questions 1, 11 and 12 (as
-// many places of `scratch` as of `blocks`); then, at each block, 13, 14, 3 to 8, 30, 9, 10 and 15. `scratch` is zero afterwards, and so are both lists where 13 or a later
-// question refused; 1, 11 and 12 touch nothing.
+// Walks a tree of a group from its root as textbooks have it: one routine reads a block, another its children from left to right. It gives what
+// `walk` of crate `walks` gives on a stack of 18 places or more, refused or not (`EveryTextbook` of specs/Textbook.antt), and is lent no stack.
+// Questions 1, 11 and 12 (as many places of `scratch` as of `blocks`); then, at each block, 13, 14, 3 to 8, 30, 9, 10 and 15. `scratch` is zero
+// afterwards, and so are both lists where 13 or a later question refused; 1, 11 and 12 touch nothing.
 pub fn walk_textbook(
     g: Geometry,
     kind: TreeKind,
