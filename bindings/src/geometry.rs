@@ -32,8 +32,9 @@ impl Geometry {
     /// A geometry as given; the calls ask whether it is valid (question 1). What a
     /// later version may know of a volume besides will come by a `with_..`.
     ///
-    /// The last sequence number is 0 until [`Geometry::with_last_lsn`] gives it; a
-    /// version 5 volume's own blocks are refused by 30 until then.
+    /// The last sequence number is 0 until [`Geometry::with_last_lsn`] gives it;
+    /// until then each block of a version 5 volume that has a higher one is refused
+    /// by 30.
     pub const fn new(
         version: u16,
         blocksize: u32,
