@@ -1,6 +1,7 @@
 -- The whole letting go: an owner gives an extent up, the counts of its blocks are lowered, and the blocks that nobody shared are free again.
 -- Assumes nothing.
 use Prim.Native.Nat.{ℕ}
+use mathlib.Core.Bool.{Bool}
 use mathlib.Core.List.{List, [], _∷_, _++_}
 use Rattle.codec.specs.Question.{Outcome, Question, ask}
 use Rattle.codec.specs.Records.{recordsOf, rmaps, refcounts}
@@ -16,11 +17,15 @@ use Rattle.groups.specs.Joint.{NewLists, jointOutcome}
 abbrev pub letting : Rmap → List Rmap → List Refcount → NewLists
 letting x m c = record { map = remove x m; counts = release (x .startblock) (end x) c; free = unshared c (x .startblock) (x .blockcount) }
 
--- both lists' questions, reverse map first: 19, 20, 22, 24, then 19, 21, 25
-abbrev pub letGoQuestions : List ℕ → List ℕ → Rmap → List Question
-letGoQuestions map counts x =
+-- both lists' questions, reverse map first: 19, 20, 22, 24, then 19, 21, and 25 with its test
+abbrev pub letGoQuestionsWith : Bool → List ℕ → List ℕ → Rmap → List Question
+letGoQuestionsWith unstaged map counts x =
     mapQuestions map x
-    ++ (ask 24 (contained x (recordsOf rmaps map)) ∷ countQuestions counts ++ (ask 25 (clear (x .startblock) (end x) (recordsOf refcounts counts)) ∷ []))
+    ++ (ask 24 (contained x (recordsOf rmaps map)) ∷ countQuestions counts ++ (ask 25 unstaged ∷ []))
+
+-- 25: is the extent clear of staging records?
+abbrev pub letGoQuestions : List ℕ → List ℕ → Rmap → List Question
+letGoQuestions map counts x = letGoQuestionsWith (clear (x .startblock) (end x) (recordsOf refcounts counts)) map counts x
 
 -- and 26
 unfoldable pub letGoOutcome : List ℕ → List ℕ → Rmap → ℕ → ℕ → ℕ → Outcome NewLists

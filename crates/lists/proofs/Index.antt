@@ -11,24 +11,38 @@ use lib.ListN.{length, getD, take, drop}
 use borrow.Author.Tests.{lt-ltb, le-ltb}
 use Rattle.codec.specs.Rmaps.{least}
 use Rattle.codec.specs.declared.rmap.Rmap.{Rmap}
-use Rattle.lists.specs.RmapEdits.{first, isSome, any, replace, nothing}
-use Rattle.lists.specs.inner.Searches.{indexWhere, noteOf}
+use Rattle.lists.specs.RmapEdits.{indexWhere, first, isSome, any, replace, nothing}
+use Rattle.lists.specs.inner.Searches.{noteOf}
 use Rattle.lists.proofs.Cases.{split, tests}
 
-module _ (p : Rmap → Bool) where
-  pub index-le : (l : List Rmap) → indexWhere p l ≤ length l
+-- ---- records of any kind
+
+module _ {R : Type 0} (p : R → Bool) where
+  pub index-le : (l : List R) → indexWhere p l ≤ length l
   unfolding indexWhere
   index-le [] = zero-le
   index-le (r ∷ l) = split (p r) (λ e. rw e zero-le) (λ e. rw e (let t = index-le l in omega arith))
 
   -- the record at the index passes
-  pub index-passes : (l : List Rmap) → indexWhere p l < length l → p (getD l (indexWhere p l) least) ≡ true
+  pub index-hits : (l : List R) (d : R) → indexWhere p l < length l → p (getD l (indexWhere p l) d) ≡ true
   unfolding indexWhere
-  index-passes [] h = absurd (omega arith)
-  index-passes (r ∷ l) h =
+  index-hits [] d h = absurd (omega arith)
+  index-hits (r ∷ l) d h =
       split (p r)
       (λ e. rw (e, e) refl)
-      (λ e. let k : suc (indexWhere p l) < suc (length l) = rw e at h in rw e (index-passes l (omega arith)))
+      (λ e. let k : suc (indexWhere p l) < suc (length l) = rw e at h in rw e (index-hits l d (omega arith)))
+
+  -- tests that agree find the same
+  pub index-same : (q : R → Bool) (l : List R) → ((r : R) → p r ≡ q r) → indexWhere p l ≡ indexWhere q l
+  unfolding indexWhere
+  index-same q [] h = refl
+  index-same q (r ∷ l) h = rw (h r, index-same q l h) refl
+
+-- ---- records of the reverse map
+
+module _ (p : Rmap → Bool) where
+  pub index-passes : (l : List Rmap) → indexWhere p l < length l → p (getD l (indexWhere p l) least) ≡ true
+  index-passes l h = index-hits p l least h
 
   -- the first that passes is no later than any that does
   pub index-first : (l : List Rmap) (i : ℕ) → i < length l → p (getD l i least) ≡ true → indexWhere p l ≤ i
@@ -46,12 +60,6 @@ module _ (p : Rmap → Bool) where
       split (p r)
       (λ e. let k : suc n ≤ 0 = rw e at h in absurd (omega arith))
       (λ e. let k : suc n ≤ suc (indexWhere p l) = rw e at h in rw e (index-drop l n (omega arith) ∙ omega arith))
-
-  -- tests that agree find the same
-  pub index-same : (q : Rmap → Bool) (l : List Rmap) → ((r : Rmap) → p r ≡ q r) → indexWhere p l ≡ indexWhere q l
-  unfolding indexWhere
-  index-same q [] h = refl
-  index-same q (r ∷ l) h = rw (h r, index-same q l h) refl
 
   pub first-some : (l : List Rmap) → indexWhere p l < length l → first p l ≡ some (getD l (indexWhere p l) least)
   unfolding indexWhere first

@@ -10,8 +10,7 @@ use lib.ListN.{getD, take, drop}
 use borrow.Author.Tests.{lt-ltb, le-ltb}
 use Rattle.codec.specs.Rmaps.{least}
 use Rattle.codec.specs.declared.rmap.Rmap.{Rmap}
-use Rattle.lists.specs.RmapEdits.{attach, insertAfter, insert}
-use Rattle.lists.specs.inner.Searches.{indexWhere}
+use Rattle.lists.specs.RmapEdits.{indexWhere, attach, insertAfter, insert}
 use Rattle.lists.proofs.Cases.{split, tests}
 
 abbrev pub after : Rmap → List Rmap → ℕ

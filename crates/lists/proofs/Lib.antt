@@ -1,4 +1,5 @@
 pub mod Cases
+pub mod Asking
 pub mod Found
 pub mod RmapOrder
 pub mod Holders

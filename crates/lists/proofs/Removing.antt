@@ -13,9 +13,9 @@ use lib.Seq.{getD-take, drop-drop}
 use borrow.Author.Tests.{lt-ltb}
 use Rattle.codec.specs.Rmaps.{end, before, follows, least}
 use Rattle.codec.specs.declared.rmap.Rmap.{Rmap}
-use Rattle.lists.specs.RmapEdits.{first, any, replace, place, contains, contained, linesUp, chosen, front, later, placeLater, cutOut, remove}
+use Rattle.lists.specs.RmapEdits.{indexWhere, first, any, replace, place, contains, contained, linesUp, chosen, front, later, placeLater, cutOut, remove}
 use Rattle.lists.specs.Splice.{between}
-use Rattle.lists.specs.inner.Searches.{indexWhere, seat}
+use Rattle.lists.specs.inner.Searches.{seat}
 use Rattle.lists.proofs.Cases.{split, tests, conj}
 use Rattle.lists.proofs.Found.{contains-ends, chosen-contains}
 use Rattle.lists.proofs.Index.{index-passes, index-same, index-drop, first-some, any-index, replace-at, index-first}

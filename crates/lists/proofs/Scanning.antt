@@ -19,8 +19,8 @@ use Rattle.lists.specs.declared.splice.Edit.{Edit}
 use Rattle.lists.specs.declared.splice.Edit.the-variants.{Insert, InsertShared, Remove}
 use Rattle.lists.specs.declared.findings.Hits.{Hits}
 use Rattle.lists.specs.declared.findings.Scan.{Scan}
-use Rattle.lists.specs.RmapEdits.{continues, overlaps, clash, contains, linesUp}
-use Rattle.lists.specs.inner.Searches.{indexWhere, seat, touches, tests, noteOf, Noted, ScanIs}
+use Rattle.lists.specs.RmapEdits.{indexWhere, continues, overlaps, clash, contains, linesUp}
+use Rattle.lists.specs.inner.Searches.{seat, touches, tests, noteOf, Noted, ScanIs}
 use Rattle.lists.proofs.Cases.{split, tests as facts, and-l, and-r, and-true}
 use Rattle.lists.proofs.Found.{overlaps-ends, contains-ends, continues-end}
 use Rattle.lists.proofs.Index.{index-le, index-same, seen, seen-none, seen-le, seen-next, seen-all}

@@ -9,8 +9,8 @@ use lib.Dec.{ltb}
 use lib.ListN.{length, getD, take, drop}
 use Rattle.codec.specs.Rmaps.{before, follows, least}
 use Rattle.codec.specs.declared.rmap.Rmap.{Rmap}
-use Rattle.lists.specs.RmapEdits.{replace, nothing, place}
-use Rattle.lists.specs.inner.Searches.{indexWhere, seat}
+use Rattle.lists.specs.RmapEdits.{indexWhere, replace, nothing, place}
+use Rattle.lists.specs.inner.Searches.{seat}
 use Rattle.lists.proofs.Cases.{split, tests, not-false}
 use Rattle.lists.proofs.Index.{index-first, index-passes}
 use Rattle.lists.proofs.RmapOrder.{le-trans, Accepted, ascending, After, Acc, acc-replace, acc-nothing, not-before-le, le-not-before}

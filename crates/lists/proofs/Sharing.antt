@@ -12,9 +12,9 @@ use lib.Seq.{drop-drop}
 use Rattle.codec.specs.Rmaps.{end, before, follows, least}
 use Rattle.codec.specs.declared.rmap.Rmap.{Rmap}
 use Rattle.lists.specs.declared.findings.Joined.{Joined}
-use Rattle.lists.specs.RmapEdits.{first, replace, nothing, place, continues, joined, attach, insert, behind, ahead, shareBefore, shareAfter, insertShared}
+use Rattle.lists.specs.RmapEdits.{indexWhere, first, replace, nothing, place, continues, joined, attach, insert, behind, ahead, shareBefore, shareAfter, insertShared}
 use Rattle.lists.specs.Splice.{between}
-use Rattle.lists.specs.inner.Searches.{indexWhere, seat}
+use Rattle.lists.specs.inner.Searches.{seat}
 use Rattle.lists.specs.inner.Splicing.{joinAt, previous}
 use Rattle.lists.proofs.Cases.{split, tests}
 use Rattle.lists.proofs.Found.{continues-end, replace-none}

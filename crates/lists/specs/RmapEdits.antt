@@ -1,6 +1,6 @@
 -- An extent taken or given up: the edits of the reverse map, as a list of records.
 -- Assumes nothing.
-use Prim.Native.Nat.{_+_, _-_}
+use Prim.Native.Nat.{ℕ, suc, _+_, _-_}
 use mathlib.Core.Bool.{Bool, true, false, not, cond, _&&_, _||_}
 use mathlib.Core.List.{List, [], _∷_, _++_}
 use mathlib.Core.Option.{Option, none, some}
@@ -22,6 +22,11 @@ isSome (some r) = true
 -- does a record pass the test?
 abbrev pub any : (Rmap → Bool) → List Rmap → Bool
 any p l = isSome (first p l)
+
+-- the index of the first record that passes the test, or the length
+unfoldable pub indexWhere : {R : Type 0} → (R → Bool) → List R → ℕ
+indexWhere p [] = 0
+indexWhere p (r ∷ l) = cond (p r) 0 (suc (indexWhere p l))
 
 -- the list with others in the place of the first record that passes the test
 unfoldable pub replace : (Rmap → Bool) → (Rmap → List Rmap) → List Rmap → List Rmap
@@ -120,6 +125,10 @@ linesUp x r = exempt r || eqb (fileOffset r + x .startblock) (fileOffset x + r .
 -- the test whose first record is cut: one that lines up, else any
 unfoldable pub chosen : Rmap → List Rmap → Rmap → Bool
 chosen x l r = cond (any (λ s. contains x s && linesUp x s) l) (contains x r && linesUp x r) (contains x r)
+
+-- the index of that record
+abbrev pub cutAt : Rmap → List Rmap → ℕ
+cutAt x l = indexWhere (chosen x l) l
 
 -- what is left of w before x
 unfoldable pub front : Rmap → Rmap → List Rmap

@@ -17,8 +17,8 @@ ghost use Prim.Native.Nat.{_≤_};
 ghost use lib.Dec.{ltb};
 ghost use Rattle.codec.specs.Records.{recordsOf, rmaps};
 ghost use Rattle.codec.specs.Rmaps.{flags, good, follows, accepted};
-ghost use Rattle.lists.specs.RmapEdits.{continues, overlaps, clash, contains, linesUp, alike};
-ghost use Rattle.lists.specs.inner.Searches.{indexWhere, touches, tests, seat, noteOf, Noted, ScanIs, AskedIs};
+ghost use Rattle.lists.specs.RmapEdits.{indexWhere, continues, overlaps, clash, contains, linesUp, alike};
+ghost use Rattle.lists.specs.inner.Searches.{touches, tests, seat, noteOf, Noted, ScanIs, AskedIs};
 
 // Have the records the same owner and flags?
 fn alike(r: Rmap, s: Rmap) -> bool

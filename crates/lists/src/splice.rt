@@ -25,6 +25,12 @@ pub struct Splice {
     pub size: usize,
 }
 
+// The index of the record that a removal cuts.
+pub enum Cut {
+    Refused(EditRefusal),
+    At(usize),
+}
+
 pub enum Prepared {
     Refused(EditRefusal),
     Ready(Splice),

@@ -16,14 +16,9 @@ use Rattle.lists.specs.declared.findings.Hits.{Hits}
 use Rattle.lists.specs.declared.findings.Scan.{Scan}
 use Rattle.lists.specs.declared.findings.Asked.{Asked}
 use Rattle.lists.specs.declared.findings.Asked.the-variants as asked
-use Rattle.lists.specs.RmapEdits.{overlaps, clash, continues, contains, linesUp}
+use Rattle.lists.specs.RmapEdits.{indexWhere, overlaps, clash, continues, contains, linesUp}
 use Rattle.lists.specs.Edits.{mapQuestions}
 use Rattle.lists.specs.Answer.{editNumber, editValues}
-
--- the index of the first record that passes the test, or the length
-unfoldable pub indexWhere : (Rmap → Bool) → List Rmap → ℕ
-indexWhere p [] = 0
-indexWhere p (r ∷ l) = cond (p r) 0 (suc (indexWhere p l))
 
 -- where z goes: before the first record that may follow it
 abbrev pub seat : Rmap → List Rmap → ℕ
