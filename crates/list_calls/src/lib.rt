@@ -3,3 +3,4 @@
 // a precondition; what a caller owes with its pointers is in docs/INTERFACE.md.
 mod answers;
 pub mod edits;
+pub mod explaining;

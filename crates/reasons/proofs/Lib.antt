@@ -1,0 +1,6 @@
+pub mod Places
+pub mod Tests
+pub mod Explaining
+pub mod StillHeld
+pub mod Deciding
+pub mod SmallWhy
