@@ -1,4 +1,4 @@
--- What a walk, the link check and the textbook walk say and leave. The third figure is a count of visits also where they are refused.
+-- What a walk, the link check and the textbook walk say and leave. The third figure is the records' bytes where it is done, its visits where it is refused.
 -- Assumes nothing.
 use Prim.Native.Nat.{ℕ}
 use mathlib.Core.Path.{_≡_}
