@@ -205,11 +205,11 @@ uint32_t kf_walk_textbook(KF_GEOMETRY, uint32_t kind, const uint8_t *image, size
  * `asked[i]`. The image and the stack are as for kf_walk; there is no scratch (1, 11, 12, 29; then at each block 13, 14, 3 to 8, 30, 9
  * and 10). In a node a child is skipped where none of all the numbers lies from its low key's start to its high key's start, both included;
  * the root is visited always, also with no number asked. An answer counts the records of the leaves visited by their bytes as they are: start
- * <= number < start + count. Where kf_walk reads the tree, its records are accepted (19, 20) and its keys are those of the records under them,
- * these are all records over the block, and no block is visited more often than by the walk. Nothing asks whether the keys are so: in a tree
- * with other keys a block that a record holds can be answered 0, so there 0 does not say that a block is free. A refusal by 1, 11, 12 or 29
- * touches neither stack nor answers; any other leaves both zero. A finished lookup leaves the stack zero, and the answers past the numbers as
- * they were.
+ * <= number < start + count. These are all records over the block where three things hold: kf_walk reads the tree, its records pass 20
+ * (kf_check_rmaps), and its keys are those of the records under them. No block is then visited more often than by the walk. A lookup asks about
+ * neither records nor keys. Where records are out of order or keys are others, a block that a record holds can be answered 0, so there 0 does
+ * not say that a block is free. A refusal by 1, 11, 12 or 29 touches neither stack nor answers; any other leaves both zero. A finished lookup
+ * leaves the stack zero, and the answers past the numbers as they were.
  * said: visits, 0, 0, 0; refused: expected, found, visits, 0. */
 uint32_t kf_lookup(KF_GEOMETRY, const uint8_t *image, size_t image_len, uint32_t root, uint32_t levels,
                    const uint32_t *asked, size_t asked_len, uint32_t *stack, size_t stack_len,

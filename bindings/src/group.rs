@@ -186,10 +186,11 @@ impl Tree {
     /// No list of blocks or records is made, so that `root.blocks` is not asked
     /// about.
     ///
-    /// An answer goes by the keys in the nodes, and no question asks about these.
-    /// Where they are not those of the records under them an answer can be too
-    /// low, so that 0 does not say that a block is free;
-    /// [`lookup`](crate::lookup) says when all records are counted.
+    /// An answer goes by the keys in the nodes, and no question asks about these
+    /// or about the records. Where keys are not those of the records under them, or
+    /// records are out of order, an answer can be too low, so that 0 does not say
+    /// that a block is free. [`lookup`](crate::lookup) says when all records are
+    /// counted.
     ///
     /// ```
     /// use kf::{build, Geometry, Kind, Rmap, Root, Tree};

@@ -591,13 +591,15 @@ pub fn walk_textbook(
 ///
 /// A child of a node is skipped where none of the numbers lies from its low
 /// key's start to its high key's start, both included. The root is visited
-/// always. An answer counts the records of the leaves visited. Where [`walk`]
-/// reads the tree, its records are accepted ([`check_rmaps`](crate::check_rmaps))
-/// and its keys are those of its records, as in the tree of a [`build`], these
-/// are all records over the block, and no block is visited more often than by
-/// the walk. That is proved. Nothing asks whether the keys are so: in a tree with
-/// other keys a block that a record holds can be answered 0, so there 0 does not
-/// say that a block is free.
+/// always. An answer counts the records of the leaves visited.
+///
+/// These are all records over the block where three things hold: [`walk`] reads
+/// the tree, its records pass 20 ([`check_rmaps`](crate::check_rmaps)), and its
+/// keys are those of the records under them. No block is then visited more often
+/// than by the walk. That is proved, and the tree of a [`build`] is so. A lookup
+/// asks about neither records nor keys. Where records are out of order or keys are
+/// others, a block that a record holds can be answered 0, so there 0 does not say
+/// that a block is free.
 ///
 /// ```
 /// use kf::{build, lookup, Geometry, Kind, Question, Rmap, STACK_PLACES};
@@ -770,6 +772,49 @@ mod tests {
             block[16..].fill(0xFF);
             assert!(check_block(&g, kind, 3, 0, &block).is_ok());
         }
+    }
+
+    /// That its records pass 20 is a premise of what is proved of a lookup, besides
+    /// the keys: here the keys are theirs, and a block that a record holds gets 0.
+    #[test]
+    fn a_lookup_among_records_out_of_order() {
+        use crate::records::Rmap;
+        let g = Geometry::new(5, 512, 9, 2, [7; 16]);
+        let extent = |startblock| Rmap {
+            startblock,
+            blockcount: 1,
+            owner: 7,
+            offset: 0,
+        };
+        // Leaf 0, leaf 1 and the root, block 2.
+        let list: Vec<u8> = (0..21).flat_map(|i| extent(9 * i).to_bytes()).collect();
+        let mut image = [0; 3 * 512];
+        build(&g, Kind::Rmap, &list, &[0, 1, 2], &mut image).unwrap();
+        // Leaf 0 holds 10/1, then 2/1; the root has 10 as the start of both its keys.
+        let (leaf, rest) = image.split_at_mut(512);
+        leaf[6..8].copy_from_slice(&2u16.to_be_bytes());
+        leaf[56..80].copy_from_slice(&extent(10).to_bytes());
+        leaf[80..104].copy_from_slice(&extent(2).to_bytes());
+        seal(leaf);
+        let root = &mut rest[512..];
+        for key in [56, 76] {
+            root[key..key + 4].copy_from_slice(&10u32.to_be_bytes());
+        }
+        seal(root);
+
+        let (mut stack, mut scratch) = ([0; STACK_PLACES], [0; 3]);
+        let (mut blocks, mut records) = ([0; 3], [0; 24 * 24]);
+        let lent = Lent::new(&mut stack, &mut scratch, &mut blocks, &mut records);
+        let walked = walk(&g, Kind::Rmap, &image, 2, 2, lent).unwrap();
+        assert_eq!(blocks, [0, 1, 2]);
+        let refused = crate::check_rmaps(&records[..walked.bytes]).unwrap_err();
+        assert_eq!(refused.number, 20);
+        let mut answers = [9; 2];
+        lookup(&g, &image, 2, 2, &[2], &mut stack, &mut answers).unwrap();
+        assert_eq!(answers, [0, 9]);
+        // With a number beside it by which the leaf is visited, it is counted.
+        lookup(&g, &image, 2, 2, &[2, 10], &mut stack, &mut answers).unwrap();
+        assert_eq!(answers, [1, 1]);
     }
 
     /// A plan goes by the number no more than by the UUID.
