@@ -11,7 +11,8 @@
  * the same time.
  *
  * A geometry is its seven numbers: the version (4 or 5), the block size in bytes, the blocks of a group, the group's number, the 16 bytes
- * of the volume's UUID as two big-endian numbers, and the last sequence number of the volume's log.
+ * of the volume's UUID as two big-endian numbers, and the volume's last sequence number. That is the number of the last record in its log, not
+ * that of the log's head; docs/QUESTIONS.md, "Words", has more.
  *
  * A caller's duties. A call cannot look whether they are kept; where one is not, nothing is said of what it does.
  *   - No pointer is null, and each is aligned for its element: at 4 for uint32_t, at 8 for uint64_t.

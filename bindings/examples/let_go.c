@@ -19,7 +19,7 @@
 #define AGNO 0u
 #define UUID_HIGH 0x0102030405060708u
 #define UUID_LOW 0x090A0B0C0D0E0F10u
-/* The last sequence number of the volume's log when the tree is built, and when it is read: the log has gone on. */
+/* The volume's last sequence number, that of the last record in its log, when the tree is built, and when it is read: the log has gone on. */
 #define LSN_BUILT 0x0000000100000032u
 #define LSN_READ 0x0000000100000040u
 #define GEOMETRY(last_lsn) VERSION, BLOCKSIZE, AGBLOCKS, AGNO, UUID_HIGH, UUID_LOW, last_lsn

@@ -23,8 +23,9 @@ pub struct Geometry {
     pub agno: u32,
     /// The volume's UUID, as its blocks have it.
     pub meta_uuid: [u8; 16],
-    /// The last sequence number of the volume's log: build writes it into blocks
-    /// of version 5, and no block of a tree that is read may have a higher one.
+    /// The volume's last sequence number, which is that of the last record in its
+    /// log: build writes it into blocks of version 5, and no block of a tree that is
+    /// read may have a higher one.
     pub last_lsn: u64,
 }
 
@@ -52,7 +53,13 @@ impl Geometry {
         }
     }
 
-    /// The same volume, with the last sequence number of its log.
+    /// The same volume, with its last sequence number.
+    ///
+    /// That is the number of the last record in its log. It is not that of the log's
+    /// head, where the next record would begin: `xfs_repair -n` refuses trees that
+    /// were built with it. After a change of the UUID, or where the log was zeroed,
+    /// it is the superblock's own, bytes 240 to 247. `docs/DIFFERENCES.md` of the
+    /// repository has what was tried.
     ///
     /// ```
     /// use kf::{check_block, Geometry, Kind, Question, Tree, Values};

@@ -35,7 +35,7 @@
 //! use kf::{FreeExtent, Geometry, Group, Kind, Rmap, Root, Tree};
 //! # use std::error::Error;
 //! # fn main() -> Result<(), Box<dyn Error>> {
-//! // From the volume's superblock and the end of its log; group 0.
+//! // From the volume's superblock and the last record of its log; group 0.
 //! let g = Geometry::new(5, 512, 64, 0, [7; 16]).with_last_lsn(0x1_0000_0032);
 //!
 //! // A new group: inode 131 takes eight blocks, inode 132 shares four of them.

@@ -5,11 +5,11 @@
 //! printed of them. The trees are `rmap`, `refcount`, `bno` (free space by block)
 //! and `cnt` (by size); each has to be linked, by the siblings printed, and is
 //! refused as any other kind. The last two have to hold the same extents. A case
-//! does not say where the volume's log ended: the last sequence number is taken to be
-//! that of the newest block in it, of all trees. A tree is read under it and under the
-//! highest one alike, and on version 5 is refused under one below its newest block's.
-//! An `.ops` file is a history. Each file is named with the calls that were made for
-//! it, and a file that gives rise to none is an error.
+//! does not have the number of the log's last record: the last sequence number is
+//! taken to be that of the newest block in it, of all trees. A tree is read under it
+//! and under the highest one alike, and on version 5 is refused under one below its
+//! newest block's. An `.ops` file is a history. Each file is named with the calls
+//! that were made for it, and a file that gives rise to none is an error.
 
 use crate::free;
 use crate::kinds::{self, Kind};
