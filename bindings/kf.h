@@ -28,14 +28,21 @@
  *     has levels.)
  * Nothing is asked of numbers, of bytes that are read, nor of what lent memory holds before the call.
  *
+ * What else is the caller's to see to, since no call asks.
+ *   - The volume's log is clean: the volume was unmounted, or its log was replayed. Some groups copied from volumes in use were accepted by
+ *     every question, and in some a let go told blocks as free that others held (docs/INTERFACE.md has the figures).
+ *   - Geometry, root and image are those of the group.
+ *   - The reverse map and the shared counts agree: what a let go says is free goes by the shared counts, and no call asks whether they agree
+ *     with the reverse map.
+ *   - A tree that is looked up in is as the words above kf_lookup say.
+ *
  * What is proved. Each function of the two archives, on every input, where the duties are kept: it returns, reads and writes nothing but what
  * it is given, and answers and writes what its contract says (`ensures` in crates/tree_calls/src and crates/list_calls/src).
  * What is not. That this header declares those functions: it is trusted for names, parameters, constants and words. bindings/tests/interface.rs
  * holds names and parameters against the Rattle source and the Rust declarations, constants against the Rust crate, and the numbers of the
  * questions against docs/QUESTIONS.md and the Rattle source; nothing but reading holds the words. That a C compiler passes parameters as the
- * Rattle back end takes them, which is the calling convention of x86-64 System V. That a caller keeps its duties, and that the reverse map and
- * the shared counts of a group agree: what a let go says is free goes by the shared counts, and no call asks whether they agree with the
- * reverse map. */
+ * Rattle back end takes them, which is the calling convention of x86-64 System V. That a caller keeps its duties, and sees to the
+ * rest. */
 #ifndef KF_H
 #define KF_H
 

@@ -1,7 +1,8 @@
 //! XFS group trees from Rust: the reverse map, the shared counts, free space by
 //! block and by size, and the blocks that hold them. The library behind it is
 //! proved; what this crate adds is said
-//! [below](#what-is-proved-and-what-this-crate-is-trusted-for).
+//! [below](#what-is-proved-and-what-this-crate-is-trusted-for), and so is
+//! [what a caller has to see to](#what-a-caller-has-to-see-to).
 //!
 //! It checks blocks, walks trees, counts the records over each of many blocks,
 //! takes extents and lets them go, says which blocks are free again and whether
@@ -143,16 +144,28 @@
 //! - for the texts of [`Question`].
 //!
 //! Under both lie what made the archives (the Rattle kit), the Rust compiler
-//! and the linker. That the geometry, the root and the image are those of the
-//! group is the caller's to see to, the last sequence number of the log among them,
-//! and so is that the reverse map and the shared counts agree: what a let go says is
-//! free goes by the counts, and no call asks
-//! whether a shared record of n owners lies over a block exactly where n records
-//! of the reverse map, two or more, do. Takes and lets go keep lists that agree so
-//! (that is proved), [`insert_shared`], [`remove`] and [`release`] by themselves do
-//! not. The example `retire` looks whether a block that it was told is free is
-//! held. Nor does a call ask whether the free extents are the blocks that no
-//! record of the reverse map lies over.
+//! and the linker.
+//!
+//! # What a caller has to see to
+//!
+//! No call asks about these, and no type keeps them.
+//!
+//! - The volume's log is clean: the volume was unmounted, or its log was replayed.
+//!   Some groups copied from volumes in use were accepted by every question, and in
+//!   some a let go told blocks as free that others held (`docs/INTERFACE.md` of the
+//!   repository has the figures).
+//! - The geometry, its last sequence number included, the root and the image are
+//!   those of the group.
+//! - The reverse map and the shared counts agree: a shared record of n owners lies
+//!   over a block exactly where n records of the reverse map, two or more, do. What a
+//!   let go says is free goes by the counts. Takes and lets go keep lists that agree
+//!   (that is proved); [`insert_shared`], [`remove`] and [`release`] by themselves do
+//!   not. The example `retire` looks whether a block that it was told is free is
+//!   held.
+//! - A tree that is looked up in is as [`lookup`] says.
+//!
+//! Nor does a call ask whether the free extents are the blocks that no record of the
+//! reverse map lies over.
 
 #![no_std]
 #![warn(missing_docs)]
