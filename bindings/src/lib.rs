@@ -143,8 +143,8 @@
 //! - to sort the extents that a [`FreeSpace`] is made of;
 //! - for the texts of [`Question`].
 //!
-//! Under both lie what made the archives (the Rattle kit), the Rust compiler
-//! and the linker.
+//! Under both lie what made the archives (the Rattle kit), `memset` of the C
+//! library, which `libtree_calls.a` calls, the Rust compiler and the linker.
 //!
 //! # What a caller has to see to
 //!
