@@ -80,6 +80,16 @@ extern "C" {
 /* What a block names as its sibling where there is none: at both ends of a level. */
 #define KF_NO_SIBLING 0xFFFFFFFFu
 
+/* What kf_explain says of a block, in its first figure: free now, still held or staging. */
+#define KF_BLOCK_FREE 0u
+#define KF_BLOCK_HELD 1u
+#define KF_BLOCK_STAGING 2u
+
+/* The list that holds the deciding record, in its second figure: none where the block is free, else the reverse map or the shared counts. */
+#define KF_LIST_NONE 0u
+#define KF_LIST_MAP 1u
+#define KF_LIST_COUNTS 2u
+
 /* Answers: the work was done, or the number of the question that failed. docs/QUESTIONS.md has each question in full. */
 enum kf_answer {
     KF_DONE = 0,
@@ -143,7 +153,9 @@ enum kf_answer {
     /* Do the block numbers asked ascend strictly, and are there at least as many places for answers? */
     KF_Q_ASKED = 29,
     /* On version 5: is the block's sequence number at most the volume's last one? */
-    KF_Q_SEQUENCE = 30
+    KF_Q_SEQUENCE = 30,
+    /* Does the block lie in the extent? */
+    KF_Q_NOT_IN_EXTENT = 31
 };
 
 /* CRC32C of the bytes, four at a step from four tables. It answers the CRC. */
@@ -271,6 +283,19 @@ uint32_t kf_let_go(const uint8_t *map, size_t map_len, const uint8_t *counts, si
 uint32_t kf_take_held(const uint8_t *map, size_t map_len, const uint8_t *counts, size_t counts_len,
                       uint32_t startblock, uint32_t blockcount, uint64_t owner, uint64_t offset,
                       uint8_t *new_map, size_t new_map_len, uint8_t *new_counts, size_t new_counts_len, uint64_t said[KF_FIGURES]);
+
+/* Why a block of an extent is free now, still held or staging when the extent is let go. The lists and the extent are those of kf_let_go, and
+ * are only read (19, 20, 22, 24, then 19, 21, then 25, then 31). 25 is not asked of a block under a staging record, in the extent or outside.
+ *   - A block under a staging record is staging, and the first such record decides.
+ *   - Any other is still held exactly where a shared record lies over it. The first record of the reverse map over the block decides, other
+ *     than the one that kf_let_go cuts: at another place of the list, even with the same bytes. Where there is none, the shared record decides.
+ *   - Else the block is free now, and no record decides.
+ * kf_let_go, unless 26 stops it, tells a block that is free now as free, and one that is still held not; where one is staging it answers 25.
+ * Where the counts agree with the reverse map, nobody holds a free block after it, and the shared record never decides.
+ * said: KF_BLOCK_FREE, KF_BLOCK_HELD or KF_BLOCK_STAGING; KF_LIST_NONE, KF_LIST_MAP or KF_LIST_COUNTS, for the list of the deciding record;
+ * where the record begins in that list, in bytes; its bytes (0 and 0 where none decides); refused: zeros. */
+uint32_t kf_explain(const uint8_t *map, size_t map_len, const uint8_t *counts, size_t counts_len,
+                    uint32_t startblock, uint32_t blockcount, uint64_t owner, uint64_t offset, uint32_t block, uint64_t said[KF_FIGURES]);
 
 #ifdef __cplusplus
 }

@@ -13,6 +13,7 @@ use crate::records::{
     free_extents, refcounts, rmaps, FreeExtent, Records, Refcount, Rmap, FREE_EXTENT, REFCOUNT,
     RMAP,
 };
+use crate::why::Why;
 use alloc::vec;
 use alloc::vec::Vec;
 use core::{fmt, mem};
@@ -599,5 +600,35 @@ impl Group {
         replace(&mut self.map, &mut self.spare.map, gone.map);
         replace(&mut self.counts, &mut self.spare.counts, gone.counts);
         Ok(free_extents(&self.spare.free[..gone.free]).collect())
+    }
+
+    /// Why a block of `x` is free now, still held or staging when `x` is let go, as
+    /// [`explain`](crate::explain) says it: what [`Group::let_go`] would make of the
+    /// block, asked before it. The answer borrows the record that decides, and prints
+    /// as a sentence. Questions 19, 20, 22 and 24, then 19, 21 and 25, then 31; 25 is
+    /// not asked of a block under a staging record.
+    ///
+    /// ```
+    /// use kf::{Cause, Group, Question, Rmap};
+    /// let mut group = Group::default();
+    /// let a = Rmap { startblock: 100, blockcount: 8, owner: 131, offset: 0 };
+    /// let b = Rmap { startblock: 102, blockcount: 4, owner: 132, offset: 0 };
+    /// group.take(&a).unwrap();
+    /// group.take_held(&b).unwrap();
+    /// // Should inode 131 let its extent go, inode 132 still holds block 103.
+    /// let why = group.why(&a, 103).unwrap();
+    /// assert_eq!(why.cause, Cause::Held(b));
+    /// assert_eq!(why.to_string(), "block 103 is still held: inode 132 holds blocks 102 to 105");
+    /// assert_eq!(why.record, b.to_bytes());
+    /// let why = group.why(&a, 107).unwrap();
+    /// assert_eq!(why.to_string(), "block 107 is free now");
+    /// assert!(why.record.is_empty());
+    /// // Block 108 is past the extent.
+    /// let refusal = group.why(&a, 108).unwrap_err();
+    /// assert_eq!(refusal.question(), Some(Question::NotInExtent));
+    /// assert_eq!(refusal.to_string(), "the block does not lie in the extent (31)");
+    /// ```
+    pub fn why(&self, x: &Rmap, block: u32) -> Result<Why<'_>, Refusal> {
+        lent::explain(&self.map, &self.counts, x, block)
     }
 }

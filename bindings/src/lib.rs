@@ -5,10 +5,10 @@
 //! [what a caller has to see to](#what-a-caller-has-to-see-to).
 //!
 //! It checks blocks, walks trees, counts the records over each of many blocks,
-//! takes extents and lets them go, says which blocks are free again and whether
-//! both free-space trees hold the same extents, and plans trees and builds them
-//! afresh. It reads no superblock or group header, keeps no cache and writes no
-//! image: its caller does.
+//! takes extents and lets them go, says which blocks are free again, why a block
+//! stays held and whether both free-space trees hold the same extents, and plans
+//! trees and builds them afresh. It reads no superblock or group header, keeps no
+//! cache and writes no image: its caller does.
 //!
 //! # Building
 //!
@@ -58,6 +58,12 @@
 //! let (map, counts) = (Root::new(5, 1, 1), Root::new(6, 1, 1));
 //! assert_eq!(Group::walk(&g, &image, map, counts)?, group);
 //!
+//! // What will become of block 43 when inode 131 lets its extent go, and why?
+//! assert_eq!(
+//!     group.why(&first, 43)?.to_string(),
+//!     "block 43 is still held: inode 132 holds blocks 42 to 45",
+//! );
+//!
 //! // Let go what inode 131 has: the blocks that nobody shares are free again.
 //! let free = group.let_go(&first)?;
 //! let before = FreeExtent { startblock: 40, blockcount: 2 };
@@ -105,6 +111,7 @@
 //! | [`Group::take`] | [`insert`] |
 //! | [`Group::take_held`] | [`take_held`] |
 //! | [`Group::let_go`] | [`let_go`] |
+//! | [`Group::why`] | [`explain`] |
 //! | [`FreeSpace::same_extents`] | [`same_extents`] |
 //! | | [`check_block`], [`check_rmaps`], [`check_refcounts`], [`check_by_block`], [`check_by_size`] |
 //! | | [`insert_shared`], [`remove`], [`release`]: one list of the two |
@@ -135,13 +142,14 @@
 //! - to declare the functions of the archives as they are ([`raw`]);
 //! - to hand each call the pointers and lengths of slices that are there. That
 //!   what is written overlaps nothing else follows from Rust's borrows;
-//! - to read the answer and the figures of a call as `kf.h` says;
+//! - to read the answer and the figures of a call as `kf.h` says, and to cut the
+//!   record of a [`Why`] out of its list by them;
 //! - to turn records into bytes and bytes into records ([`Rmap`], [`Refcount`],
 //!   [`FreeExtent`], [`Records`]);
 //! - in [`Group`] and [`Tree`], to lend as much as the law says, to replace a
 //!   list only where the call was done, and to cut the results to their lengths;
 //! - to sort the extents that a [`FreeSpace`] is made of;
-//! - for the texts of [`Question`].
+//! - for the texts of [`Question`], and for those of [`Cause`] and [`Why`].
 //!
 //! Under both lie what made the archives (the Rattle kit), `memset` of the C
 //! library, which `libtree_calls.a` calls, the Rust compiler and the linker.
@@ -179,18 +187,20 @@ mod lent;
 mod question;
 pub mod raw;
 mod records;
+mod why;
 
 pub use free_space::FreeSpace;
 pub use geometry::{Geometry, Kind};
 pub use group::{Group, LookedUp, Root, Tree, TreeLists};
 pub use lent::{
     build, check_block, check_by_block, check_by_size, check_refcounts, check_rmaps, crc32c,
-    crc32c_singly, insert, insert_shared, let_go, lookup, plan, release, remove, same_extents,
-    take_held, walk, walk_linked, walk_textbook, Built, Header, Lent, LetGone, NewLists, Plan,
-    Released, TakenHeld, WalkLists, Walked, NO_SIBLING, STACK_PLACES,
+    crc32c_singly, explain, insert, insert_shared, let_go, lookup, plan, release, remove,
+    same_extents, take_held, walk, walk_linked, walk_textbook, Built, Header, Lent, LetGone,
+    NewLists, Plan, Released, TakenHeld, WalkLists, Walked, NO_SIBLING, STACK_PLACES,
 };
 pub use question::{Question, Refusal, Values, WalkRefusal};
 pub use records::{
     free_extents, refcounts, rmaps, FreeExtent, Records, Refcount, Rmap, FREE_EXTENT, REFCOUNT,
     RMAP,
 };
+pub use why::{Cause, Why};

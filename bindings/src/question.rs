@@ -16,7 +16,7 @@ macro_rules! questions {
         /// assert_eq!(Question::from_number(4), Some(Question::Magic));
         /// assert_eq!(Question::Magic.number(), 4);
         /// assert_eq!(Question::Magic.to_string(), "wrong magic number");
-        /// assert_eq!(Question::ALL.len(), 30);
+        /// assert_eq!(Question::ALL.len(), 31);
         /// ```
         #[derive(Debug, Clone, Copy, PartialEq, Eq, Hash, PartialOrd, Ord)]
         #[non_exhaustive]
@@ -81,6 +81,7 @@ questions! {
     28 Owners "a shared record over the extent has 4,294,967,295 owners already",
     29 Asked "the block numbers asked do not ascend strictly, or there are fewer places for answers",
     30 Sequence "the block's sequence number is above the volume's last one",
+    31 NotInExtent "the block does not lie in the extent",
 }
 
 impl Question {
@@ -259,7 +260,7 @@ mod tests {
     #[test]
     fn questions() {
         let numbers: Vec<u32> = Question::ALL.iter().map(|q| q.number()).collect();
-        assert_eq!(numbers, (1..=30).collect::<Vec<u32>>());
+        assert_eq!(numbers, (1..=31).collect::<Vec<u32>>());
         let mut texts = BTreeSet::new();
         for &q in Question::ALL {
             assert_eq!(Question::from_number(q.number()), Some(q));
@@ -267,7 +268,7 @@ mod tests {
             assert!(texts.insert(q.text()), "{q:?} has a text of its own");
         }
         assert_eq!(Question::from_number(0), None);
-        assert_eq!(Question::from_number(31), None);
+        assert_eq!(Question::from_number(32), None);
     }
 
     #[test]

@@ -51,6 +51,20 @@ pub const KF_KIND_BY_BLOCK: u32 = 2;
 /// The kind of the tree of free space by size.
 pub const KF_KIND_BY_SIZE: u32 = 3;
 
+/// [`kf_explain`]: the block is free now.
+pub const KF_BLOCK_FREE: u64 = 0;
+/// [`kf_explain`]: the block is still held.
+pub const KF_BLOCK_HELD: u64 = 1;
+/// [`kf_explain`]: the block is staging.
+pub const KF_BLOCK_STAGING: u64 = 2;
+
+/// [`kf_explain`]: no record decides.
+pub const KF_LIST_NONE: u64 = 0;
+/// [`kf_explain`]: the deciding record stands in the reverse map.
+pub const KF_LIST_MAP: u64 = 1;
+/// [`kf_explain`]: the deciding record stands in the shared counts.
+pub const KF_LIST_COUNTS: u64 = 2;
+
 #[allow(clippy::too_many_arguments)]
 extern "C" {
     /// CRC32C of the bytes, four at a step. It answers the CRC.
@@ -422,6 +436,26 @@ extern "C" {
         new_map_len: usize,
         new_counts: *mut u8,
         new_counts_len: usize,
+        said: *mut [u64; 4],
+    ) -> u32;
+
+    /// Why a block of an extent is free now, still held or staging when the extent
+    /// is let go, and where the record that decides stands.
+    ///
+    /// # Safety
+    ///
+    /// The [duties of a caller](self#duties-of-a-caller).
+    /// Reads `map` and `counts`; writes `said`.
+    pub fn kf_explain(
+        map: *const u8,
+        map_len: usize,
+        counts: *const u8,
+        counts_len: usize,
+        startblock: u32,
+        blockcount: u32,
+        owner: u64,
+        offset: u64,
+        block: u32,
         said: *mut [u64; 4],
     ) -> u32;
 }

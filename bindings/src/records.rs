@@ -17,7 +17,7 @@ const FILE_OFFSET: u64 = (1 << 54) - 1;
 const STAGING: u32 = 1 << 31;
 
 /// `N` bytes of a record, from `at` on.
-fn field<const N: usize>(record: &[u8], at: usize) -> [u8; N] {
+pub(crate) fn field<const N: usize>(record: &[u8], at: usize) -> [u8; N] {
     let mut bytes = [0; N];
     bytes.copy_from_slice(&record[at..at + N]);
     bytes

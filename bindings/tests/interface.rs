@@ -705,6 +705,12 @@ fn the_constants_are_the_crates() {
         ("KF_FIGURES", 4),
         ("KF_STACK_PLACES", kf::STACK_PLACES as u64),
         ("KF_NO_SIBLING", kf::NO_SIBLING as u64),
+        ("KF_BLOCK_FREE", kf::raw::KF_BLOCK_FREE),
+        ("KF_BLOCK_HELD", kf::raw::KF_BLOCK_HELD),
+        ("KF_BLOCK_STAGING", kf::raw::KF_BLOCK_STAGING),
+        ("KF_LIST_NONE", kf::raw::KF_LIST_NONE),
+        ("KF_LIST_MAP", kf::raw::KF_LIST_MAP),
+        ("KF_LIST_COUNTS", kf::raw::KF_LIST_COUNTS),
     ];
     let expected = expected.map(|(name, n)| (name.to_string(), n));
     assert_eq!(constants, BTreeMap::from(expected));
@@ -1042,10 +1048,10 @@ fn another_answer_is_found() {
     let (header, paper) = (read("bindings/kf.h"), read("docs/QUESTIONS.md"));
     let found = |from, to| answer_differences(&altered(&header, from, to), &paper);
     assert_eq!(
-        found("KF_Q_SEQUENCE = 30", "KF_Q_SEQUENCE = 31"),
+        found("KF_Q_NOT_IN_EXTENT = 31", "KF_Q_NOT_IN_EXTENT = 32"),
         [
-            "question 30 has 0 constants",
-            "KF_Q_SEQUENCE is 31, which is no question"
+            "question 31 has 0 constants",
+            "KF_Q_NOT_IN_EXTENT is 32, which is no question"
         ]
     );
     assert_eq!(

@@ -1,8 +1,13 @@
-//! What the vectors lend is enough, whatever they are given.
+//! What the vectors lend is enough, whatever they are given; and an explanation is
+//! what a let go comes to.
 
 use super::*;
-use crate::{check_refcounts, check_rmaps, crc32c, insert, let_go, take_held, Question, Values};
+use crate::{
+    check_refcounts, check_rmaps, crc32c, insert, let_go, take_held, Cause, Question, Values,
+};
 use alloc::collections::BTreeSet;
+use alloc::format;
+use alloc::string::ToString;
 
 /// Marsaglia's xorshift: numbers that are the same at each run.
 struct Random(u64);
@@ -304,6 +309,10 @@ fn any_bytes() {
             compared(&group, edit, &x, &mut growth);
             let owner = 5;
             compared(&group, edit, &Rmap { owner, ..x }, &mut growth);
+        }
+        for block in ends {
+            as_let_go(&group, &x, block);
+            as_let_go(&group, &Rmap { owner: 5, ..x }, block);
         }
         let blocksize = ends[random.below(8) as usize];
         for blocksize in [512, blocksize] {
@@ -658,4 +667,351 @@ fn a_newer_block_in_a_tree() {
             assert_eq!(textbook, Err(due));
         }
     }
+}
+
+/// An explanation comes to what a let go of the same extent does: free or not, 25
+/// where the block is staging, the same refusal but for 31, which a let go does not
+/// ask.
+fn as_let_go(group: &Group, x: &Rmap, block: u32) {
+    let said = || format!("block {block} of {x:?} in {group:?}");
+    let is_staging = |why: &Why| matches!(why.cause, Cause::Staging(_));
+    match (group.why(x, block), group.clone().let_go(x)) {
+        (Ok(why), Ok(free)) => {
+            let over = |f: &FreeExtent| f.startblock <= block && u64::from(block) < f.end();
+            let is_free = free.iter().any(over);
+            assert_eq!(why.cause == Cause::Free, is_free, "{}", said());
+            assert!(!is_staging(&why), "{}", said());
+        }
+        (Ok(why), Err(gone)) => {
+            assert_eq!((is_staging(&why), gone.number), (true, 25), "{}", said());
+        }
+        (Err(refusal), Ok(_)) => assert_eq!(refusal.number, 31, "{}", said()),
+        (Err(refusal), Err(gone)) => {
+            let numbers = (refusal.number, gone.number);
+            assert!(refusal == gone || numbers == (31, 25), "{}", said());
+        }
+    }
+}
+
+fn rmap(startblock: u32, blockcount: u32, owner: i64, offset: u64) -> Rmap {
+    Rmap {
+        startblock,
+        blockcount,
+        owner,
+        offset,
+    }
+}
+
+fn shared(startblock: u32, blockcount: u32, refcount: u32) -> Refcount {
+    Refcount {
+        startblock,
+        blockcount,
+        refcount,
+    }
+}
+
+fn staging(startblock: u32, blockcount: u32) -> Refcount {
+    shared((1 << 31) | startblock, blockcount, 1)
+}
+
+fn group_of(map: &[Rmap], counts: &[Refcount]) -> Group {
+    Group::new(
+        map.iter().flat_map(|r| r.to_bytes()).collect(),
+        counts.iter().flat_map(|r| r.to_bytes()).collect(),
+    )
+}
+
+/// The cause, and the place of the deciding record in its list, 0 where none
+/// decides; or the number of the refusal. The part handed back is looked at: its
+/// bytes are the record's, and they are the list's own, not a copy.
+fn named(group: &Group, x: &Rmap, block: u32) -> Result<(Cause, usize), u32> {
+    let why = group.why(x, block).map_err(|refusal| refusal.number)?;
+    assert_eq!(why.block, block);
+    let (list, record) = match why.cause {
+        Cause::Free => (&group.map, vec![]),
+        Cause::Held(r) => (&group.map, r.to_bytes().to_vec()),
+        Cause::Shared(r) | Cause::Staging(r) => (&group.counts, r.to_bytes().to_vec()),
+    };
+    assert_eq!(why.record, record);
+    if record.is_empty() {
+        return Ok((why.cause, 0));
+    }
+    let at = why.record.as_ptr() as usize - list.as_ptr() as usize;
+    assert_eq!(&list[at..][..record.len()], record);
+    assert_eq!(at % record.len(), 0);
+    Ok((why.cause, at / record.len()))
+}
+
+/// Inode 131 lets 100/8 go. Inode 132 shares 102/4, and before it stand records of
+/// other blocks; so places in the two lists differ.
+#[test]
+fn why_a_block_is_held_or_free() {
+    let (a, b) = (rmap(100, 8, 131, 0), rmap(102, 4, 132, 0));
+    let own = rmap(0, 4, -3, 0);
+    let counts = [shared(50, 2, 2), shared(102, 4, 2), shared(200, 1, 3)];
+    let group = group_of(&[own, a, b, rmap(300, 1, 7, 0)], &counts);
+    for block in 100..108 {
+        let held = (102..106).contains(&block);
+        let due = if held {
+            (Cause::Held(b), 2)
+        } else {
+            (Cause::Free, 0)
+        };
+        assert_eq!(named(&group, &a, block), Ok(due), "{block}");
+    }
+    for block in [0, 99, 108, 200, (1 << 31) - 1, 1 << 31, u32::MAX] {
+        assert_eq!(named(&group, &a, block), Err(31), "{block}");
+    }
+    // The file offset chooses, and is not asked about.
+    let elsewhere = Rmap { offset: 9, ..a };
+    assert_eq!(named(&group, &elsewhere, 103), Ok((Cause::Held(b), 2)));
+    // A part of the extent, and the clone's own extent: there inode 131 holds on.
+    let part = rmap(104, 3, 131, 4);
+    assert_eq!(named(&group, &part, 105), Ok((Cause::Held(b), 2)));
+    assert_eq!(named(&group, &part, 106), Ok((Cause::Free, 0)));
+    assert_eq!(named(&group, &part, 103), Err(31));
+    assert_eq!(named(&group, &b, 103), Ok((Cause::Held(a), 1)));
+}
+
+/// The first of many decides, a reserved owner as any other.
+#[test]
+fn why_by_the_first_of_many() {
+    let own = rmap(2, 5, -3, 0);
+    let (a, b, c) = (rmap(0, 8, 131, 0), rmap(4, 2, 132, 0), rmap(4, 4, 133, 0));
+    let group = group_of(&[a, own, b, c], &[shared(0, 8, 4)]);
+    assert_eq!(named(&group, &a, 5), Ok((Cause::Held(own), 1)));
+    assert_eq!(
+        group.why(&a, 5).unwrap().to_string(),
+        "block 5 is still held: reserved owner -3 holds blocks 2 to 6"
+    );
+    assert_eq!(named(&group, &a, 7), Ok((Cause::Held(c), 3)));
+    assert_eq!(named(&group, &c, 7), Ok((Cause::Held(a), 0)));
+}
+
+/// The counts tell other owners, and the reverse map has none.
+#[test]
+fn why_by_the_count_alone() {
+    let a = rmap(100, 8, 131, 0);
+    let counts = [shared(50, 2, 2), shared(100, 4, 3)];
+    let group = group_of(&[a], &counts);
+    assert_eq!(named(&group, &a, 103), Ok((Cause::Shared(counts[1]), 1)));
+    assert_eq!(
+        group.why(&a, 103).unwrap().to_string(),
+        "block 103 is still held: the shared counts tell 3 owners of blocks 100 to 103, \
+         and the reverse map has no other record over it"
+    );
+    assert_eq!(named(&group, &a, 104), Ok((Cause::Free, 0)));
+    // Held by the map alone is free: the counts decide.
+    let group = group_of(&[a, rmap(104, 1, 132, 0)], &counts);
+    assert_eq!(named(&group, &a, 104), Ok((Cause::Free, 0)));
+}
+
+/// A block under a staging record gets it, and 25 is for the blocks beside it.
+#[test]
+fn why_beside_staging() {
+    let (a, b) = (rmap(100, 8, 131, 0), rmap(102, 4, 132, 0));
+    let inside = staging(103, 2);
+    let outside = staging(110, 1);
+    let shares = shared(102, 4, 2);
+    let group = group_of(&[a, b], &[shares, inside, outside]);
+    assert_eq!(named(&group, &a, 103), Ok((Cause::Staging(inside), 1)));
+    assert_eq!(named(&group, &a, 104), Ok((Cause::Staging(inside), 1)));
+    assert_eq!(
+        group.why(&a, 104).unwrap().to_string(),
+        "block 104 is staging: blocks 103 to 104 are set aside for copy-on-write"
+    );
+    // Held, free, or outside the extent.
+    for block in [102, 105, 106, 108] {
+        assert_eq!(named(&group, &a, block), Err(25), "{block}");
+    }
+    // Under a staging record, but outside: 31, whether the extent meets another
+    // such record or not.
+    assert_eq!(named(&group, &a, 110), Err(31));
+    let group = group_of(&[a, b], &[shares, outside]);
+    assert_eq!(named(&group, &a, 110), Err(31));
+    assert_eq!(named(&group, &a, 103), Ok((Cause::Held(b), 1)));
+}
+
+/// The record cut is left out by its place: an equal one is another.
+#[test]
+fn why_by_an_equal_record() {
+    let a = rmap(100, 8, 131, 0);
+    let counts = [shared(100, 8, 2)];
+    let group = group_of(&[a, a], &counts);
+    assert_eq!(named(&group, &a, 103), Ok((Cause::Held(a), 1)));
+    assert_eq!(
+        named(&group_of(&[a], &counts), &a, 103),
+        Ok((Cause::Shared(counts[0]), 0))
+    );
+}
+
+/// Of several that contain the extent the first that lines up is cut, so that one
+/// before it decides; where none lines up, the first is cut.
+#[test]
+fn why_by_the_record_before_the_one_cut() {
+    let (a, b) = (rmap(0, 8, 131, 0), rmap(0, 8, 131, 9));
+    let group = group_of(&[a, b], &[shared(0, 8, 2)]);
+    let x = |offset| rmap(2, 3, 131, offset);
+    assert_eq!(named(&group, &x(11), 3), Ok((Cause::Held(a), 0)));
+    assert_eq!(named(&group, &x(2), 3), Ok((Cause::Held(b), 1)));
+    assert_eq!(named(&group, &x(50), 3), Ok((Cause::Held(b), 1)));
+    // Blocks of an extent map always line up: the first is cut.
+    let bmbt = 1 << 62;
+    let (a, b) = (rmap(0, 8, 131, bmbt), rmap(0, 8, 131, bmbt | 9));
+    let group = group_of(&[a, b], &[shared(0, 8, 2)]);
+    assert_eq!(named(&group, &x(bmbt | 11), 3), Ok((Cause::Held(b), 1)));
+}
+
+/// The questions in their order: each input fails one of them and all after it.
+#[test]
+fn why_is_refused_in_order() {
+    let (a, b) = (rmap(100, 8, 131, 0), rmap(100, 8, 132, 0));
+    let (out_of_order, good) = ([b, a], [a, b]);
+    let (bad, meets) = ([shared(0, 1, 1)], [staging(100, 1)]);
+    let no_extent = rmap(100, 0, 131, 0);
+    let missing = rmap(100, 8, 133, 0);
+    let refused = |group: &Group, x: &Rmap| group.why(x, 200).unwrap_err().number;
+    let mut group = group_of(&out_of_order, &bad);
+    group.map.push(0);
+    assert_eq!(refused(&group, &no_extent), 19);
+    group.map.pop();
+    assert_eq!(refused(&group, &no_extent), 20);
+    let mut group = group_of(&good, &bad);
+    group.counts.push(0);
+    assert_eq!(refused(&group, &no_extent), 22);
+    assert_eq!(refused(&group, &missing), 24);
+    assert_eq!(refused(&group, &a), 19);
+    group.counts.pop();
+    assert_eq!(refused(&group, &a), 21);
+    assert_eq!(refused(&group_of(&good, &meets), &a), 25);
+    assert_eq!(refused(&group_of(&good, &[]), &a), 31);
+}
+
+/// Records of both lists over a few blocks, accepted. Half of the counts agree with
+/// the map, and some have staging records behind them.
+fn small_group(random: &mut Random) -> (Group, bool) {
+    let mut map: Vec<Rmap> = (0..random.below(6))
+        .map(|_| {
+            let startblock = random.below(8) as u32;
+            let offset = u64::from(startblock) + 100 * random.below(2);
+            let blockcount = 1 + random.below(6) as u32;
+            rmap(startblock, blockcount, random.below(3) as i64 - 1, offset)
+        })
+        .collect();
+    map.sort_by_key(|r| (r.startblock, r.owner as u64, r.offset));
+    let agree = random.below(2) == 0;
+    let mut counts: Vec<Refcount> = vec![];
+    for block in 0..16 {
+        let over = |r: &&Rmap| r.startblock <= block && u64::from(block) < r.end();
+        let holders = map.iter().filter(over).count() as u32;
+        let owners = if agree {
+            holders
+        } else {
+            random.below(4) as u32
+        };
+        match counts.last_mut() {
+            Some(c) if c.end() == u64::from(block) && c.refcount == owners => c.blockcount += 1,
+            _ if owners >= 2 => counts.push(shared(block, 1, owners)),
+            _ => {}
+        }
+    }
+    if random.below(4) == 0 {
+        counts.push(staging(random.below(8) as u32, 1 + random.below(3) as u32));
+    }
+    (group_of(&map, &counts), agree)
+}
+
+/// The words of docs/QUESTIONS.md as a program, for accepted lists and good extents.
+fn by_the_words(group: &Group, x: &Rmap, block: u32) -> Result<(Cause, usize), u32> {
+    let contains = |r: &Rmap| {
+        (r.owner, r.flags()) == (x.owner, x.flags())
+            && r.startblock <= x.startblock
+            && x.end() <= r.end()
+    };
+    let lines_up = |r: &Rmap| {
+        let ahead = u64::from(x.startblock) - u64::from(r.startblock);
+        x.is_reserved() || x.is_bmbt_block() || r.file_offset() + ahead == x.file_offset()
+    };
+    let cut = group
+        .rmaps()
+        .position(|r| contains(&r) && lines_up(&r))
+        .or_else(|| group.rmaps().position(|r| contains(&r)))
+        .ok_or(24u32)?;
+    let over = |start: u32, end: u64| start <= block && u64::from(block) < end;
+    let count_over = |is_staging: bool| {
+        let mut counts = group.refcounts().enumerate();
+        counts.find(|(_, r)| r.is_staging() == is_staging && over(r.block(), r.end()))
+    };
+    let staged = count_over(true);
+    let meets = |r: &Refcount| {
+        r.is_staging() && u64::from(r.block()) < x.end() && u64::from(x.startblock) < r.end()
+    };
+    if staged.is_none() && group.refcounts().any(|r| meets(&r)) {
+        return Err(25);
+    }
+    if !over(x.startblock, x.end()) {
+        return Err(31);
+    }
+    if let Some((i, r)) = staged {
+        return Ok((Cause::Staging(r), i));
+    }
+    let Some((i, r)) = count_over(false) else {
+        return Ok((Cause::Free, 0));
+    };
+    let mut others = group.rmaps().enumerate().filter(|(i, _)| *i != cut);
+    match others.find(|(_, r)| over(r.startblock, r.end())) {
+        Some((i, r)) => Ok((Cause::Held(r), i)),
+        None => Ok((Cause::Shared(r), i)),
+    }
+}
+
+/// Each block of each record, and of parts of it, in small groups: the explanation
+/// is that of the words, and what a let go comes to.
+#[test]
+fn why_of_each_block_of_small_groups() {
+    let mut random = Random(0x5DEE_CE66_D1CE_4E5B);
+    let mut met = BTreeSet::new();
+    for _ in 0..400 {
+        let (group, agree) = small_group(&mut random);
+        let mut extents: Vec<Rmap> = group.rmaps().collect();
+        for r in group.rmaps() {
+            let ahead = random.below(u64::from(r.blockcount)) as u32;
+            let left = u64::from(r.blockcount - ahead);
+            let offset = r.offset + u64::from(ahead) * random.below(2);
+            let count = 1 + random.below(left) as u32;
+            extents.push(rmap(r.startblock + ahead, count, r.owner, offset));
+            extents.push(rmap(r.startblock, r.blockcount + 3, r.owner, r.offset));
+        }
+        for x in &extents {
+            let mut after = group.clone();
+            let gone = after.let_go(x).is_ok();
+            for block in (0..16).chain([(1 << 31) - 1, 1 << 31, u32::MAX]) {
+                as_let_go(&group, x, block);
+                let said = named(&group, x, block);
+                let context = || format!("block {block} of {x:?} in {group:?}");
+                assert_eq!(said, by_the_words(&group, x, block), "{}", context());
+                let over = |r: &Rmap| r.startblock <= block && u64::from(block) < r.end();
+                let holders = after.rmaps().filter(over).count();
+                let (kind, agreeing) = match said {
+                    Ok((Cause::Free, _)) => ("free", holders == 0),
+                    Ok((Cause::Held(_), _)) => ("held", holders > 0),
+                    Ok((Cause::Shared(_), _)) => ("shared", false),
+                    Ok((Cause::Staging(_), _)) => ("staging", !gone),
+                    Err(24) => ("24", !gone),
+                    Err(25) => ("25", !gone),
+                    Err(31) => ("31", true),
+                    Err(n) => panic!("{n}: {}", context()),
+                };
+                // What is more in lists that agree.
+                assert!(agreeing || !agree, "{kind}: {}", context());
+                met.insert((kind, agree));
+            }
+        }
+    }
+    // Each is met in lists that agree and in others, but for the count alone.
+    let kinds = ["free", "held", "staging", "24", "25", "31"];
+    let due = kinds.iter().flat_map(|&kind| [(kind, false), (kind, true)]);
+    let mut due: BTreeSet<(&str, bool)> = due.collect();
+    due.insert(("shared", false));
+    assert_eq!(met, due);
 }

@@ -3,6 +3,7 @@
 use crate::question::{answer, Refusal};
 use crate::raw;
 use crate::records::Rmap;
+use crate::why::Why;
 
 /// Is it an accepted reverse map? Questions 19 and 20.
 ///
@@ -370,4 +371,62 @@ pub fn take_held(
         counts: said[1] as usize,
     };
     answer(n, &said, taken)
+}
+
+/// Why a block of `x` is free now, still held or staging when `x` is let go. The
+/// lists and `x` are those of [`let_go`], and are only read; the answer borrows the
+/// record that decides from whichever of the two lists holds it. Questions 19, 20,
+/// 22 and 24, then 19, 21 and 25, then 31; 25 is not asked of a block under a staging
+/// record.
+///
+/// A block under a staging record is staging, by the first of them. Any other is
+/// still held exactly where a shared record lies over it: by the first record of the
+/// reverse map over it, other than the one that [`let_go`] cuts (an equal duplicate
+/// is another), else by the shared record. Else it is free now.
+///
+/// [`let_go`], unless 26 stops it, tells a block that is free now as free, and one
+/// that is still held not; where one is staging it answers 25. Where the counts agree
+/// with the reverse map, nobody holds a free block after it, and the shared record
+/// never decides; no call asks whether they agree.
+///
+/// ```
+/// use kf::{explain, Cause, Question, Refcount, Rmap};
+/// let a = Rmap { startblock: 100, blockcount: 8, owner: 131, offset: 0 };
+/// let b = Rmap { startblock: 102, blockcount: 4, owner: 132, offset: 0 };
+/// let shared = Refcount { startblock: 102, blockcount: 4, refcount: 2 };
+/// let (map, counts) = ([a.to_bytes(), b.to_bytes()].concat(), shared.to_bytes());
+/// let why = explain(&map, &counts, &a, 103).unwrap();
+/// assert_eq!(why.cause, Cause::Held(b));
+/// assert_eq!(why.to_string(), "block 103 is still held: inode 132 holds blocks 102 to 105");
+/// // The record's bytes are those in the list.
+/// assert_eq!(why.record.as_ptr(), map[24..].as_ptr());
+/// assert_eq!(why.record, b.to_bytes());
+/// assert_eq!(explain(&map, &counts, &a, 106).unwrap().cause, Cause::Free);
+/// let refusal = explain(&map, &counts, &a, 108).unwrap_err();
+/// assert_eq!(refusal.question(), Some(Question::NotInExtent));
+/// ```
+pub fn explain<'a>(
+    map: &'a [u8],
+    counts: &'a [u8],
+    x: &Rmap,
+    block: u32,
+) -> Result<Why<'a>, Refusal> {
+    let mut said = [0; 4];
+    // SAFETY: two slices that the call reads, and four numbers that it writes.
+    let n = unsafe {
+        raw::kf_explain(
+            map.as_ptr(),
+            map.len(),
+            counts.as_ptr(),
+            counts.len(),
+            x.startblock,
+            x.blockcount,
+            x.owner as u64,
+            x.offset,
+            block,
+            &mut said,
+        )
+    };
+    answer(n, &said, ())?;
+    Ok(Why::from_figures(map, counts, block, &said))
 }
