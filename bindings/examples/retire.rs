@@ -1,13 +1,14 @@
 //! `retire CASE OWNER`: lets all extents of an owner go from the group of a case
-//! file and prints what is free again; then builds the reverse map and the shared
-//! counts afresh in a copy of the image and walks them back. The case file is left
-//! as it is, and so are the free-space trees.
+//! file and prints what is free again, and why the rest stays held; then builds the
+//! reverse map and the shared counts afresh in a copy of the image and walks them
+//! back. The case file is left as it is, and so are the free-space trees.
 //!
-//! Walks, edits, plans and builds are the proved library's. Which extents go,
-//! that none of the free blocks is held, which blocks the trees get and that
-//! they are stored there is this program's.
+//! Walks, edits, causes, plans and builds are the proved library's. Which extents
+//! go, which records it is given to explain a block, that none of the free blocks
+//! is held, which blocks the trees get and that they are stored there is this
+//! program's.
 
-use kf::{FreeExtent, Geometry, Group, Kind, Rmap, Root, Tree};
+use kf::{Cause, FreeExtent, Geometry, Group, Kind, Question, Refcount, Refusal, Rmap, Root, Tree};
 use std::error::Error;
 use std::io::{self, Write};
 use std::process::ExitCode;
@@ -107,8 +108,9 @@ struct Gone {
     refused: usize,
 }
 
-/// Lets all extents of an owner go, one after another, and prints each. A
-/// refusal changes nothing and does not end it.
+/// Lets all extents of an owner go, one after another, and prints each, with the
+/// causes of blocks that are not free below it. A refusal changes nothing and does
+/// not end it.
 fn let_all_go(
     group: &mut Group,
     owner: i64,
@@ -124,6 +126,7 @@ fn let_all_go(
         let (done, all) = (i - gone.refused, extents.len());
         progress.say(format_args!("{done} of {all} extents let go"))?;
         write!(out, "{}/{}: ", x.startblock, x.blockcount)?;
+        let near = Near::of(group, x);
         match group.let_go(x) {
             Ok(free) => {
                 let said = if free.is_empty() {
@@ -136,10 +139,14 @@ fn let_all_go(
                     write!(out, " {}/{}", f.startblock, f.blockcount)?;
                 }
                 writeln!(out)?;
+                near.print_causes(x, out)?;
                 gone.free.extend(free);
             }
             Err(refusal) => {
                 writeln!(out, "{refusal}")?;
+                if refusal.question() == Some(Question::Staging) {
+                    near.print_causes(x, out)?;
+                }
                 gone.refused += 1;
             }
         }
@@ -151,6 +158,98 @@ fn let_all_go(
         "extents let go {done}, refused {refused}; blocks free again {blocks}"
     )?;
     Ok(gone)
+}
+
+/// The records of both lists that meet an extent, in order, as they are before it
+/// goes. No other decides about its blocks.
+struct Near {
+    map: Vec<Rmap>,
+    counts: Vec<Refcount>,
+}
+
+/// Neighbouring blocks of an extent that have the same cause.
+#[derive(Debug, PartialEq)]
+struct Run {
+    start: u32,
+    end: u32,
+    cause: Cause,
+}
+
+impl Near {
+    fn of(group: &Group, x: &Rmap) -> Near {
+        let meets =
+            |start: u32, end: u64| u64::from(start) < x.end() && u64::from(x.startblock) < end;
+        let mut near = Near {
+            map: Vec::new(),
+            counts: group
+                .refcounts()
+                .filter(|r| meets(r.block(), r.end()))
+                .collect(),
+        };
+        // An extent of which no block stays held has nothing to explain.
+        if !near.counts.is_empty() {
+            near.map
+                .extend(group.rmaps().filter(|r| meets(r.startblock, r.end())));
+        }
+        near
+    }
+
+    /// Why blocks of the extent are still held or, where it meets staging records, so
+    /// that it cannot go, staging.
+    ///
+    /// What decides about a block are the records over it, and those that contain the
+    /// extent are among them. The library is given these alone, so that a cause costs
+    /// the same in a long list as in a short one; and it is asked once for all blocks
+    /// up to the next where the answer can be another.
+    fn causes(&self, x: &Rmap) -> Result<Vec<Run>, Refusal> {
+        let refused = self.counts.iter().any(|r| r.is_staging());
+        let mut runs: Vec<Run> = Vec::new();
+        let (mut later, mut over) = (self.map.iter().peekable(), Vec::new());
+        for count in self.counts.iter().filter(|r| r.is_staging() == refused) {
+            // Both ends lie in the extent, which ends by 2^31, or 22 had refused it.
+            let mut block = count.block().max(x.startblock);
+            let end = count.end().min(x.end()) as u32;
+            while block < end {
+                while let Some(r) = later.next_if(|r| r.startblock <= block) {
+                    over.push(r);
+                }
+                over.retain(|r| u64::from(block) < r.end());
+                let map = over.iter().flat_map(|r| r.to_bytes()).collect();
+                let cause = Group::new(map, count.to_bytes().to_vec())
+                    .why(x, block)?
+                    .cause;
+                // A record that begins later stands behind the one that decides; where
+                // none of the map decides, it may.
+                let until = match (cause, later.peek()) {
+                    (Cause::Held(r), _) => r.end(),
+                    (_, Some(r)) => u64::from(r.startblock),
+                    (_, None) => u64::from(end),
+                };
+                let until = until.min(u64::from(end)) as u32;
+                match runs.last_mut() {
+                    Some(run) if (run.end, run.cause) == (block, cause) => run.end = until,
+                    _ => runs.push(Run {
+                        start: block,
+                        end: until,
+                        cause,
+                    }),
+                }
+                block = until;
+            }
+        }
+        Ok(runs)
+    }
+
+    fn print_causes(&self, x: &Rmap, out: &mut dyn Write) -> Result<(), Box<dyn Error>> {
+        for Run { start, end, cause } in self.causes(x)? {
+            let said = match cause {
+                Cause::Staging(_) => "staging",
+                _ => "still held",
+            };
+            writeln!(out, "  {start}/{} {said}: {cause}", end - start)?;
+        }
+        Ok(())
+    }
 }
 
 /// A free extent of which a block is held, and a record that holds it. What is
@@ -265,12 +364,19 @@ mod tests {
     #[test]
     fn a_clone() {
         let lines = printed("v5-1024-small.case", "81986");
-        assert_eq!(lines.len(), 31 + 4);
+        assert_eq!(lines.len(), 1 + 2 * 30 + 4);
         assert_eq!(lines[0], "8223/1: free 8223/1");
-        assert_eq!(lines[1], "8256/1: all blocks still held");
-        assert_eq!(lines[30], "8314/1: all blocks still held");
+        let held = |n: u32| {
+            [
+                format!("{n}/1: all blocks still held"),
+                format!("  {n}/1 still held: inode 81985 holds blocks 8256 to 8315"),
+            ]
+        };
+        for i in 0..30 {
+            assert_eq!(lines[2 * i + 1..][..2], held(8256 + 2 * i as u32));
+        }
         assert_eq!(
-            lines[31..],
+            lines[61..],
             [
                 "extents let go 31, refused 0; blocks free again 1",
                 "reverse map: built in blocks 3, before 4, left over 1",
@@ -286,8 +392,15 @@ mod tests {
         let lines = printed("v5-1024-small.case", "81985");
         let free: Vec<String> = (0..30).map(|i| format!("{}/1", 8257 + 2 * i)).collect();
         assert_eq!(lines[0], format!("8256/60: free {}", free.join(" ")));
+        for i in 0..30 {
+            let n = 8256 + 2 * i;
+            assert_eq!(
+                lines[1 + i],
+                format!("  {n}/1 still held: inode 81986 holds block {n}")
+            );
+        }
         assert_eq!(
-            lines[1],
+            lines[31],
             "extents let go 1, refused 0; blocks free again 30"
         );
     }
@@ -295,8 +408,14 @@ mod tests {
     #[test]
     fn many_extents() {
         let lines = printed("v5-2048.case", "65602");
+        // 700 of the extents are a block of the file that was cloned.
+        let causes = lines.iter().filter(|line| line.starts_with("  "));
+        assert!(causes
+            .clone()
+            .all(|line| line.ends_with(" holds blocks 32 to 1431")));
+        assert_eq!(causes.count(), 700);
         assert_eq!(
-            lines[707..],
+            lines[707 + 700..],
             [
                 "extents let go 707, refused 0; blocks free again 7",
                 "reverse map: built in blocks 13, before 25, left over 12",
@@ -339,10 +458,140 @@ mod tests {
         assert!(group.rmaps().eq([a]));
         assert_eq!(
             String::from_utf8(out).unwrap(),
-            "4/2: the extent meets a staging record (25)\n\
+            "4/2: the extent meets a staging record (25)\n  \
+             5/1 staging: block 5 is set aside for copy-on-write\n\
              8/2: free 8/2\n\
              extents let go 1, refused 1; blocks free again 2\n"
         );
+    }
+
+    fn rmap(startblock: u32, blockcount: u32, owner: i64) -> Rmap {
+        Rmap {
+            startblock,
+            blockcount,
+            owner,
+            offset: 0,
+        }
+    }
+
+    fn shared(startblock: u32, blockcount: u32, refcount: u32) -> Refcount {
+        Refcount {
+            startblock,
+            blockcount,
+            refcount,
+        }
+    }
+
+    fn group_of(map: &[Rmap], counts: &[Refcount]) -> Group {
+        Group::new(
+            map.iter().flat_map(|r| r.to_bytes()).collect(),
+            counts.iter().flat_map(|r| r.to_bytes()).collect(),
+        )
+    }
+
+    /// The causes are those that the library gives for each block, from the whole
+    /// lists.
+    fn as_for_each_block(group: &Group, x: &Rmap) -> Vec<Run> {
+        let runs = Near::of(group, x).causes(x).unwrap();
+        for block in x.startblock..x.startblock + x.blockcount {
+            let of_block = |run: &&Run| run.start <= block && block < run.end;
+            let found: Vec<Cause> = runs.iter().filter(of_block).map(|run| run.cause).collect();
+            let due = match group.why(x, block) {
+                Ok(why) if why.cause == Cause::Free => vec![],
+                Ok(why) => vec![why.cause],
+                // Beside a staging record.
+                Err(refusal) if refusal.question() == Some(Question::Staging) => vec![],
+                Err(refusal) => panic!("block {block} of {x:?}: {refusal}"),
+            };
+            assert_eq!(found, due, "block {block} of {x:?} in {group:?}");
+        }
+        runs
+    }
+
+    /// The extent of one inode, with all that can be beside it.
+    #[test]
+    fn causes_in_runs() {
+        let x = rmap(100, 30, 131);
+        let map = [
+            rmap(90, 13, 130),
+            x,
+            rmap(101, 5, 132),
+            rmap(108, 4, 133),
+            rmap(110, 30, -5),
+        ];
+        // A run ends with its record or where a block is free, not where the counts
+        // change.
+        let counts = [
+            shared(95, 7, 2),
+            shared(102, 2, 3),
+            shared(108, 5, 3),
+            shared(113, 5, 2),
+            shared(120, 1, 2),
+        ];
+        let run = |start, end, cause| Run { start, end, cause };
+        assert_eq!(
+            as_for_each_block(&group_of(&map, &counts), &x),
+            [
+                run(100, 103, Cause::Held(map[0])),
+                run(103, 104, Cause::Held(map[2])),
+                run(108, 112, Cause::Held(map[3])),
+                run(112, 118, Cause::Held(map[4])),
+                run(120, 121, Cause::Held(map[4])),
+            ]
+        );
+        // With fewer records the counts alone are left, up to where one begins.
+        assert_eq!(
+            as_for_each_block(&group_of(&[x, map[3]], &counts), &x),
+            [
+                run(100, 102, Cause::Shared(counts[0])),
+                run(102, 104, Cause::Shared(counts[1])),
+                run(108, 112, Cause::Held(map[3])),
+                run(112, 113, Cause::Shared(counts[2])),
+                run(113, 118, Cause::Shared(counts[3])),
+                run(120, 121, Cause::Shared(counts[4])),
+            ]
+        );
+        let later = rmap(115, 1, 132);
+        assert_eq!(
+            as_for_each_block(&group_of(&[x, later], &counts[3..4]), &x),
+            [
+                run(113, 115, Cause::Shared(counts[3])),
+                run(115, 116, Cause::Held(later)),
+                run(116, 118, Cause::Shared(counts[3])),
+            ]
+        );
+        // Staging records, of which two lie in the extent in part.
+        let staging = |start: u32, count| shared((1 << 31) | start, count, 1);
+        let staged = [counts[1], staging(98, 3), staging(110, 2), staging(129, 4)];
+        assert_eq!(
+            as_for_each_block(&group_of(&map, &staged), &x),
+            [
+                run(100, 101, Cause::Staging(staged[1])),
+                run(110, 112, Cause::Staging(staged[2])),
+                run(129, 130, Cause::Staging(staged[3])),
+            ]
+        );
+        assert_eq!(as_for_each_block(&group_of(&map, &[]), &x), []);
+    }
+
+    /// Every extent of real groups, none of them let go.
+    #[test]
+    fn causes_of_real_extents() {
+        for name in ["v5-1024-small.case", "v5-2048.case"] {
+            let path = format!("{}/data/{name}", env!("CARGO_MANIFEST_DIR"));
+            let case = Case::read(&path).unwrap();
+            let root = |kind| case.root(kind).unwrap();
+            let (map, counts) = (root(Kind::Rmap), root(Kind::Refcount));
+            let group = Group::walk(&case.geometry, &case.image, map, counts).unwrap();
+            let mut held = 0;
+            for x in group.rmaps().filter(|x| !x.is_reserved()) {
+                let runs = as_for_each_block(&group, &x);
+                held += runs.iter().map(|run| run.end - run.start).sum::<u32>();
+            }
+            // Each block that is shared stays held by each of its owners' letting go.
+            let counts = group.refcounts().filter(|r| !r.is_staging());
+            assert_eq!(held, counts.map(|r| r.blockcount * r.refcount).sum::<u32>());
+        }
     }
 
     #[test]

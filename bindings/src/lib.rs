@@ -86,8 +86,9 @@
 //! The folder `examples` has six programs on trees of real volumes:
 //! `check_block`, `walk_tree`, `holders` (how many hold each of many blocks),
 //! `free_space` (whether both free-space trees hold the same extents, and what is
-//! free), `retire` (lets all extents of an owner go and builds the reverse map and
-//! the shared counts afresh) and `all_groups` (on all cores).
+//! free), `retire` (lets all extents of an owner go, says why blocks stay held and
+//! builds the reverse map and the shared counts afresh) and `all_groups` (on all
+//! cores).
 //!
 //! ```sh
 //! cargo run --example retire data/v5-1024-small.case 81986
