@@ -1,5 +1,5 @@
-/* An extent is taken, taken once more by another owner, and let go by both; then the reverse map is built as a tree, read back and looked up
- * in. The calls are the proved library's; what is lent to them, and what is made of their answers, is this program's.
+/* An extent is taken, taken once more by another owner, and let go by both, with the cause of a block that stays held; then the reverse map is
+ * built as a tree, read back and looked up in. The calls are the proved library's; what is lent to them, and what is made of their answers, is this program's.
  * Compile it in the repository's folder, as C99 or later, or as C++11 or later:
  *
  *   cc -std=c99 -Wall -Wextra -pedantic -I bindings bindings/examples/let_go.c \
@@ -91,6 +91,11 @@ static uint32_t be32(const uint8_t *p)
     return (uint32_t)p[0] << 24 | (uint32_t)p[1] << 16 | (uint32_t)p[2] << 8 | (uint32_t)p[3];
 }
 
+static uint64_t be64(const uint8_t *p)
+{
+    return (uint64_t)be32(p) << 32 | be32(p + 4);
+}
+
 static void put_rmap(uint8_t *p, uint32_t start, uint32_t count, uint64_t owner, uint64_t offset)
 {
     put_be32(p, start);
@@ -158,6 +163,29 @@ static size_t let_go(struct list *map, struct list *counts, uint32_t start, uint
         printf("  nothing is free\n");
     free(free_extents.bytes);
     return found;
+}
+
+/* Why a block of an extent is free now or still held when the extent is let go. The deciding record is read where it stands in its list; these lists
+ * agree, so that it is one of the reverse map, and have no staging records. */
+static void explain(const struct list *map, const struct list *counts, uint32_t start, uint32_t count, uint64_t owner, uint32_t block,
+                    uint32_t expected)
+{
+    uint64_t said[KF_FIGURES];
+    const uint8_t *record;
+
+    expect("explain", kf_explain(map->bytes, map->len, counts->bytes, counts->len, start, count, owner, 0, block, said), expected);
+    if (expected != KF_DONE)
+        return;
+    if (said[0] == KF_BLOCK_FREE) {
+        must(said[1] == KF_LIST_NONE && said[2] == 0 && said[3] == 0, "no record decides");
+        printf("  block %lu is free now\n", (unsigned long)block);
+        return;
+    }
+    must(said[0] == KF_BLOCK_HELD && said[1] == KF_LIST_MAP, "a record of the reverse map decides");
+    must(said[3] == KF_RMAP_BYTES && said[2] + said[3] <= map->len, "it stands whole in the list");
+    record = map->bytes + said[2];
+    printf("  block %lu is still held: owner %lu holds %lu blocks from %lu\n", (unsigned long)block, (unsigned long)be64(record + 8),
+           (unsigned long)be32(record + 4), (unsigned long)be32(record));
 }
 
 /* The reverse map as a tree of one block, number 5 of the group, checked, read back and looked up in. */
@@ -250,9 +278,12 @@ int main(void)
     take_held(&map, &counts, 40, 10, 132);
     print_lists(&map, &counts);
 
-    /* The first lets them go, and 132 holds them still; then it lets them go too. */
+    /* The first lets them go, and 132 holds them still; then it lets them go too. Block 50 is not among them. */
+    explain(&map, &counts, 40, 10, 131, 43, KF_DONE);
     must(let_go(&map, &counts, 40, 10, 131) == 0, "nothing is free while inode 132 holds the blocks");
     print_lists(&map, &counts);
+    explain(&map, &counts, 40, 10, 132, 43, KF_DONE);
+    explain(&map, &counts, 40, 10, 132, 50, KF_Q_NOT_IN_EXTENT);
     must(let_go(&map, &counts, 40, 10, 132) == 1, "one extent is free again");
     print_lists(&map, &counts);
 

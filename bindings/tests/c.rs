@@ -14,9 +14,14 @@ insert: 23
   records: 2, shared counts: 0
 take_held: 0
   records: 3, shared counts: 1
+explain: 0
+  block 43 is still held: owner 132 holds 10 blocks from 40
 let_go: 0
   nothing is free
   records: 2, shared counts: 0
+explain: 0
+  block 43 is free now
+explain: 31
 let_go: 0
   free: 10 blocks from 40
   records: 1, shared counts: 0
