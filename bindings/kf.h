@@ -39,10 +39,10 @@
  * What is proved. Each function of the two archives, on every input, where the duties are kept: it returns, reads and writes nothing but what
  * it is given, and answers and writes what its contract says (`ensures` in crates/tree_calls/src and crates/list_calls/src).
  * What is not. That this header declares those functions: it is trusted for names, parameters, constants and words. bindings/tests/interface.rs
- * holds names and parameters against the Rattle source and the Rust declarations, constants against the Rust crate, and the numbers of the
- * questions against docs/QUESTIONS.md and the Rattle source; nothing but reading holds the words. That a C compiler passes parameters as the
- * Rattle back end takes them, which is the calling convention of x86-64 System V. That memset, which libtree_calls.a calls, does what C says.
- * That a caller keeps its duties, and sees to the rest. */
+ * holds names and parameters against the Rattle source and the Rust declarations, constants against the Rust crate and docs/INTERFACE.md, the
+ * questions' numbers against docs/QUESTIONS.md and the Rattle source; nothing but reading holds the words. That a C compiler passes parameters
+ * as the Rattle back end takes them, which is the calling convention of x86-64 System V. That memset, which libtree_calls.a calls, does what C
+ * says. That a caller keeps its duties, and sees to the rest. */
 #ifndef KF_H
 #define KF_H
 

@@ -751,9 +751,19 @@ fn snake(name: &str) -> String {
     out
 }
 
-/// The numbers that the refusals of the Rattle source are told by.
-#[test]
-fn the_library_tells_these_numbers() {
+/// The numbers in `Told::plain(n)`, or in `Told::two(n, ..)`, of a Rattle source.
+fn told_in(source: &str, by: &str) -> Vec<u32> {
+    let number = |after: &str| {
+        let inside = after.strip_prefix(by)?.strip_prefix('(')?;
+        inside.split([')', ',']).next()?.parse().ok()
+    };
+    let text = without_line_comments(source);
+    text.split("Told::").skip(1).filter_map(number).collect()
+}
+
+/// The numbers that the refusals of the Rattle source are told by: `plain` without
+/// values, `two` with expected and found.
+fn told(by: &str) -> BTreeSet<u32> {
     let mut told = BTreeSet::new();
     let crates = repository().join("crates");
     for entry in fs::read_dir(&crates).expect("the crates") {
@@ -761,17 +771,120 @@ fn the_library_tells_these_numbers() {
         for file in fs::read_dir(&dir).into_iter().flatten() {
             let path = file.expect("an entry").path();
             let source = fs::read_to_string(&path).expect("a module");
-            for after in source.split("Told::").skip(1) {
-                let of = ["plain(", "two("]
-                    .iter()
-                    .find_map(|w| after.strip_prefix(w));
-                let digits = of.and_then(|t| t.split([')', ',']).next());
-                told.extend(digits.and_then(|d| d.parse::<u32>().ok()));
-            }
+            told.extend(told_in(&source, by));
         }
     }
+    told
+}
+
+#[test]
+fn the_library_tells_these_numbers() {
+    let (plain, two) = (told("plain"), told("two"));
+    assert!(plain.is_disjoint(&two), "with values and without");
+    let told: BTreeSet<u32> = plain.union(&two).copied().collect();
     let questions: BTreeSet<u32> = kf::Question::ALL.iter().map(|q| q.number()).collect();
     assert_eq!(told, questions);
+}
+
+/// What stands between `start` and the next `end` of a text.
+fn between<'a>(text: &'a str, start: &str, end: &str) -> &'a str {
+    let from = text
+        .find(start)
+        .unwrap_or_else(|| panic!("nothing starts with {start:?}"));
+    let after = &text[from + start.len()..];
+    after.split(end).next().unwrap_or("")
+}
+
+/// Which texts have other numbers than `told` for the questions that come with
+/// expected and found.
+fn value_differences(
+    told: &BTreeSet<u32>,
+    interface: &str,
+    questions: &str,
+    wrapper: &str,
+) -> Vec<String> {
+    let rows = table(questions, "| number | expected | found |");
+    let numbers: Vec<&str> = rows.iter().map(|row| row[0].as_str()).collect();
+    let texts = [
+        (
+            "docs/INTERFACE.md",
+            between(
+                interface,
+                "Expected and found are numbers where ",
+                " failed",
+            )
+            .to_string(),
+        ),
+        ("docs/QUESTIONS.md", numbers.join(", ")),
+        (
+            "question.rs",
+            between(wrapper, "/// The two values; questions ", " have them").to_string(),
+        ),
+    ];
+    let mut found = Vec::new();
+    for (called, said) in texts {
+        let numbers = numbers_in(&said);
+        let once: BTreeSet<u32> = numbers.iter().copied().collect();
+        if once != *told || once.len() != numbers.len() {
+            found.push(format!("{called} has {numbers:?}, the library {told:?}"));
+        }
+    }
+    found
+}
+
+/// The questions that come with two values are the same in the Rattle source, in
+/// both papers and in the crate's words. That the crate goes by these words is
+/// tested where it reads figures.
+#[test]
+fn the_papers_have_the_numbers_with_values() {
+    let (interface, questions) = (read("docs/INTERFACE.md"), read("docs/QUESTIONS.md"));
+    let wrapper = read("bindings/src/question.rs");
+    let told = told("two");
+    hold(value_differences(&told, &interface, &questions, &wrapper));
+    // The table is headed by how many they are.
+    let words = ["Six", "Seven", "Eight", "Nine"];
+    let headed = format!(
+        "\n{} of them, about fields of a block header",
+        words[told.len() - 6]
+    );
+    assert!(questions.contains(&headed), "{headed}");
+}
+
+/// The table of constants has every constant of kf.h that is no answer, and the
+/// first and the last question, with their numbers.
+#[test]
+fn the_papers_have_every_constant() {
+    let header = c_header(&read("bindings/kf.h"));
+    hold(constant_differences(&header, &read("docs/INTERFACE.md")));
+}
+
+/// A constant of kf.h that the table of docs/INTERFACE.md lacks, or has with
+/// another number.
+fn constant_differences(header: &Header, paper: &str) -> Vec<String> {
+    let mut rows = BTreeMap::new();
+    for row in table(paper, "| `kf.h` | number |") {
+        let names = named_in(std::slice::from_ref(&row));
+        let numbers = row[1].replace(',', "");
+        let numbers: Vec<u64> = numbers
+            .split(" to ")
+            .map(|n| n.parse().expect("a number"))
+            .collect();
+        assert_eq!(names.len(), numbers.len(), "{row:?}");
+        rows.extend(names.into_iter().zip(numbers));
+    }
+    let (first, last) = (header.answers.get(1), header.answers.last());
+    let mut found = Vec::new();
+    for (name, n) in &header.constants {
+        let is_due = !name.starts_with("KF_Q_") || [first, last].contains(&Some(name));
+        match rows.remove(name) {
+            None if is_due => found.push(format!("{name} has no row")),
+            Some(m) if m != *n => found.push(format!("{name} is {n}, in its row {m}")),
+            Some(_) if !is_due => found.push(format!("{name} is neither first nor last")),
+            _ => {}
+        }
+    }
+    found.extend(rows.keys().map(|name| format!("{name} is no constant")));
+    found
 }
 
 /// The numbers in a text, those of `a to b` between.
@@ -1073,6 +1186,85 @@ fn a_missing_row_is_found() {
             "kf_b has 2 rows in a paper",
             "kf_c has 0 rows in a paper",
             "a paper has a row for kf_d, which is no function"
+        ]
+    );
+}
+
+#[test]
+fn other_numbers_with_values_are_found() {
+    let (interface, questions) = (read("docs/INTERFACE.md"), read("docs/QUESTIONS.md"));
+    let wrapper = read("bindings/src/question.rs");
+    let source = read("crates/blocks/src/check.rt");
+    let told: BTreeSet<u32> = told_in(&source, "two").into_iter().collect();
+    let none = [""; 0];
+    assert_eq!(
+        value_differences(&told, &interface, &questions, &wrapper),
+        none
+    );
+    let missing = "[4, 5, 7, 8, 9, 10], the library {4, 5, 7, 8, 9, 10, 30}";
+    let paper = altered(
+        &interface,
+        "4, 5, 7 to 10 or 30 failed",
+        "4, 5 or 7 to 10 failed",
+    );
+    assert_eq!(
+        value_differences(&told, &paper, &questions, &wrapper),
+        [format!("docs/INTERFACE.md has {missing}")]
+    );
+    let row = "| 30 | the volume's last sequence number | bytes 24 to 31 |\n";
+    let paper = altered(&questions, row, "");
+    assert_eq!(
+        value_differences(&told, &interface, &paper, &wrapper),
+        [format!("docs/QUESTIONS.md has {missing}")]
+    );
+    let twice = altered(&questions, row, &row.repeat(2));
+    assert_eq!(
+        value_differences(&told, &interface, &twice, &wrapper).len(),
+        1
+    );
+    let words = altered(&wrapper, "7 to 10 and 30 have them", "7 to 10 have them");
+    assert_eq!(
+        value_differences(&told, &interface, &questions, &words),
+        [format!("question.rs has {missing}")]
+    );
+    // A number that the source tells with values, or no longer.
+    for (from, to) in [
+        ("Told::plain(6)", "Told::two(6, expected, found)"),
+        ("Told::two(10,", "Told::plain(10,"),
+        ("=> Told::two(9", "=> // Told::two(9"),
+    ] {
+        let source = altered(&source, from, to);
+        let told = told_in(&source, "two").into_iter().collect();
+        let found = value_differences(&told, &interface, &questions, &wrapper);
+        assert_eq!(found.len(), 3, "{to}");
+    }
+}
+
+#[test]
+fn another_constant_is_found() {
+    let (header, paper) = (read("bindings/kf.h"), read("docs/INTERFACE.md"));
+    let found = |header: &str, paper: &str| constant_differences(&c_header(header), paper);
+    let changed = altered(&header, "KF_LIST_MAP 1u", "KF_LIST_MAP 2u");
+    assert_eq!(found(&changed, &paper), ["KF_LIST_MAP is 2, in its row 1"]);
+    let more = altered(
+        &header,
+        "#define KF_LEVELS",
+        "#define KF_MORE 7u\n#define KF_LEVELS",
+    );
+    assert_eq!(found(&more, &paper), ["KF_MORE has no row"]);
+    let fewer = altered(&header, "#define KF_FIGURES 4u\n", "");
+    let fewer = fewer.replace("[KF_FIGURES]", "[4]");
+    assert_eq!(found(&fewer, &paper), ["KF_FIGURES is no constant"]);
+    let before = altered(
+        &paper,
+        "to `KF_Q_NOT_IN_EXTENT` | 1 to 31",
+        "to `KF_Q_SEQUENCE` | 1 to 30",
+    );
+    assert_eq!(
+        found(&header, &before),
+        [
+            "KF_Q_NOT_IN_EXTENT has no row",
+            "KF_Q_SEQUENCE is neither first nor last"
         ]
     );
 }
