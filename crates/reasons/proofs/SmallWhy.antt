@@ -1,4 +1,4 @@
--- Blocks of small lists explained: free, held, staging and refused; and what `EveryWhy` and `EveryHolder` say of one that is held.
+-- Blocks of small lists explained: free, held, staging and refused; and what `EveryWhy` and `EveryHolder` say of some of them.
 -- Assumes nothing.
 use Prim.Native.Nat.{ℕ, _+_, _^_}
 use mathlib.Core.Path.{_≡_, refl, subst}
@@ -38,16 +38,19 @@ abbrev staged : ℕ → ℕ → Refcount
 staged s c = counted (2 ^ 31 + s) c 1
 
 -- 0/4 of owner 7, of which owner 9 holds 1/2 too; all of it is let go
-abbrev pair : List ℕ
+abbrev pub pair : List ℕ
 pair = map (record-of 0 4 7 0 ∷ record-of 1 2 9 0 ∷ [])
 
-abbrev gone : Rmap
+abbrev pub pair-counts : List ℕ
+pair-counts = counts (counted 1 2 2 ∷ [])
+
+abbrev pub gone : Rmap
 gone = record-of 0 4 7 0
 
-pub record Explains : Type 0 where
-  pub free : explainOutcome pair (counts (counted 1 2 2 ∷ [])) gone 0 ≡ done Free
-  pub held : explainOutcome pair (counts (counted 1 2 2 ∷ [])) gone 1 ≡ done (HeldInMap 1)
-  pub outside : explainOutcome pair (counts (counted 1 2 2 ∷ [])) gone 4 ≡ refused 31 none
+pub record SmallWhy : Type 0 where
+  pub free : explainOutcome pair pair-counts gone 0 ≡ done Free
+  pub held : explainOutcome pair pair-counts gone 1 ≡ done (HeldInMap 1)
+  pub outside : explainOutcome pair pair-counts gone 4 ≡ refused 31 none
   -- a staging record over block 3: 25 for every other block of the extent
   pub staging : explainOutcome pair (counts (counted 1 2 2 ∷ staged 3 1 ∷ [])) gone 3 ≡ done (Staging 1)
   pub beside : explainOutcome pair (counts (counted 1 2 2 ∷ staged 3 1 ∷ [])) gone 1 ≡ refused 25 none
@@ -64,7 +67,7 @@ pub record Explains : Type 0 where
   pub missing : explainOutcome pair (0 ∷ []) (record-of 0 5 7 0) 0 ≡ refused 24 none
   pub broken : explainOutcome pair (0 ∷ []) gone 0 ≡ refused 19 none
 
-pub explains : Explains
+pub explains : SmallWhy
 unfolding explainOutcome whyOf heldOf indexWhere indexBut bytes.beOf bytes.beBytes records.fieldsOf records.fieldBytes records.firstRecords records.recordsOf records.bytesOf accepted.whole accepted.inOrder rmap.reserved rmap.mapping rmap.exempt rmap.good rmap.keyOffset rmap.before rmap.follows refcount.staging refcount.good refcount.follows extent.over edits.first edits.isSome edits.contains edits.linesUp edits.chosen release.clear
 explains =
     record {
@@ -83,15 +86,30 @@ explains =
     }
 
 -- so the second record covers block 1, its bytes are handed back, and the letting go does not offer the block
-pub shown : Shown pair (counts (counted 1 2 2 ∷ [])) gone 1 (HeldInMap 1)
-shown = every-why pair (counts (counted 1 2 2 ∷ [])) gone 1 (HeldInMap 1) (explains .held)
+pub shown : Shown pair pair-counts gone 1 (HeldInMap 1)
+shown = every-why pair pair-counts gone 1 (HeldInMap 1) (explains .held)
+
+-- block 0 it offers, and where block 3 is staging it is refused by 25
+pub shown-free : Shown pair pair-counts gone 0 Free
+shown-free = every-why pair pair-counts gone 0 Free (explains .free)
+
+pub shown-staging : Shown pair (counts (counted 1 2 2 ∷ staged 3 1 ∷ [])) gone 3 (Staging 1)
+shown-staging = every-why pair (counts (counted 1 2 2 ∷ staged 3 1 ∷ [])) gone 3 (Staging 1) (explains .staging)
 
 -- these are the lists after a first take and a take of two of its blocks, from none: they are accepted and agree, so somebody holds the block afterwards
 shared-run : run none-held (first ∷ second ∷ []) ≡ shared-lists
 unfolding run after
 shared-run = rw (shares .taken) (rw (shares .taken-held) refl)
 
+shared-accepted : Accepted shared-lists
+shared-accepted = subst Accepted shared-run (history none-held (first ∷ second ∷ []) none-start .accepted)
+
+shared-agree : Agreeing shared-lists
+shared-agree = subst Agreeing shared-run (history none-held (first ∷ second ∷ []) none-start .agree)
+
 pub still-held : HeldAfter (HeldInMap 1) (holders (remove gone (recordsOf rmaps pair)) 1)
-still-held =
-    let h = history none-held (first ∷ second ∷ []) none-start in
-    every-holder shared-lists gone 1 (HeldInMap 1) (subst Accepted shared-run (h .accepted)) (subst Agreeing shared-run (h .agree)) (explains .held)
+still-held = every-holder shared-lists gone 1 (HeldInMap 1) shared-accepted shared-agree (explains .held)
+
+-- and nobody holds block 0
+pub none-left : HeldAfter Free (holders (remove gone (recordsOf rmaps pair)) 0)
+none-left = every-holder shared-lists gone 0 Free shared-accepted shared-agree (explains .free)

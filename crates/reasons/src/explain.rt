@@ -1,4 +1,4 @@
-// The cause on paper: whether a block of a letting go is free now, still held, or staging, and the bytes of the record that decides.
+// Whether a block of a letting go is free now, still held, or staging, and the bytes of the record that decides.
 use crate::find::find_count;
 use crate::find::find_other;
 use crate::find::over;
