@@ -13,7 +13,7 @@ pub struct Geometry {
     pub agno: u32,
     // The volume's UUID, as every block of version 5 has it.
     pub meta_uuid: [u8; 16],
-    // The last sequence number of the volume's log: no block of version 5 has a higher one.
+    // The sequence number of the last record in the volume's log: no block of version 5 has a higher one.
     pub last_lsn: u64,
 }
 

@@ -13,7 +13,7 @@ use blocks::stamp::stamp;
 use codec::crc::crc32c_with_zeroed_crc;
 use codec::endian::put_le32;
 
-// The group 3 of a volume whose UUID is the bytes 16 to 31, and whose log ends at a number with no two bytes alike.
+// The group 3 of a volume whose UUID is the bytes 16 to 31, and the last record of whose log has a number with no two bytes alike.
 pub fn geometry(version: u16, blocksize: u32, agblocks: u32) -> Geometry
     ensures { λ g. ⌜ g ≡ sampleGeometry version blocksize agblocks ⌝ }
 {
