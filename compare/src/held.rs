@@ -12,18 +12,6 @@ use oracle::paper;
 use oracle::rmap::Rmap;
 use oracle::sample::Random;
 
-fn counts_of(bytes: &[u8]) -> Vec<Count> {
-    let word = |b: &[u8]| u32::from_be_bytes([b[0], b[1], b[2], b[3]]);
-    bytes
-        .chunks_exact(12)
-        .map(|c| Count {
-            start: word(c),
-            count: word(&c[4..]),
-            owners: word(&c[8..]),
-        })
-        .collect()
-}
-
 /// The owners of the record over a place, 0 where there is none.
 fn owners(list: &[Count], place: u64) -> u64 {
     list.iter()
@@ -78,7 +66,7 @@ pub fn due(map: &[u8], counts: &[u8], x: Rmap, room: [usize; 2]) -> Result<[Vec<
     {
         return Err(n.into());
     }
-    let list = counts_of(counts);
+    let list = lists::count_list(counts);
     let (s, e) = (
         u64::from(x.startblock),
         u64::from(x.startblock) + u64::from(x.blockcount),

@@ -487,3 +487,21 @@ pub fn take_held(
         )
     })
 }
+
+/// Why a block of an extent that is let go is free, held or staging.
+pub fn explain(map: &[u8], counts: &[u8], x: Rmap, block: u32) -> Said {
+    said(|s| unsafe {
+        raw::kf_explain(
+            map.as_ptr(),
+            map.len(),
+            counts.as_ptr(),
+            counts.len(),
+            x.startblock,
+            x.blockcount,
+            x.owner as u64,
+            x.offset,
+            block,
+            s,
+        )
+    })
+}

@@ -190,8 +190,21 @@ pub fn count_bytes(list: &[Count]) -> Vec<u8> {
     out
 }
 
+/// The counts of whole records.
+pub fn count_list(bytes: &[u8]) -> Vec<Count> {
+    let word = |b: &[u8]| u32::from_be_bytes([b[0], b[1], b[2], b[3]]);
+    bytes
+        .chunks_exact(12)
+        .map(|c| Count {
+            start: word(c),
+            count: word(&c[4..]),
+            owners: word(&c[8..]),
+        })
+        .collect()
+}
+
 /// Records one after another from about `at`, touching or with gaps.
-fn line(r: &mut Random, at: u64, n: u64, staging: bool) -> Vec<Count> {
+pub fn line(r: &mut Random, at: u64, n: u64, staging: bool) -> Vec<Count> {
     let mut list = Vec::new();
     let mut at = at;
     for _ in 0..n {
@@ -237,19 +250,24 @@ pub fn counts(r: &mut Random) -> Vec<Count> {
         list.extend(more);
     }
     if !list.is_empty() && r.below(24) == 0 {
-        let i = r.below(list.len() as u64) as usize;
-        match r.below(8) {
-            0 => list[i].count = 0,
-            1 => list[i].owners = r.below(2) as u32,
-            2 => list[i].owners = 2,
-            3 => list[i].start ^= STAGING,
-            4 => list[i].count += 1 + r.below(3) as u32,
-            5 => list.swap(i, 0),
-            6 => list[i].count = u32::MAX - r.below(3) as u32,
-            _ => list[i].start = r.next() as u32,
-        }
+        break_rule(r, &mut list);
     }
     list
+}
+
+/// Of a list that is not empty one record changed, mostly so that 21 fails.
+pub fn break_rule(r: &mut Random, list: &mut [Count]) {
+    let i = r.below(list.len() as u64) as usize;
+    match r.below(8) {
+        0 => list[i].count = 0,
+        1 => list[i].owners = r.below(2) as u32,
+        2 => list[i].owners = 2,
+        3 => list[i].start ^= STAGING,
+        4 => list[i].count += 1 + r.below(3) as u32,
+        5 => list.swap(i, 0),
+        6 => list[i].count = u32::MAX - r.below(3) as u32,
+        _ => list[i].start = r.next() as u32,
+    }
 }
 
 /// Start and count of a release.

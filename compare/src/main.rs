@@ -26,6 +26,7 @@ mod tally;
 mod textbook;
 mod trees;
 mod vectors;
+mod why;
 
 use oracle::sample::Random;
 use tally::Tally;
@@ -38,7 +39,7 @@ struct Part {
 }
 
 /// In this order: a part's seed goes by its place.
-const PARTS: [Part; 18] = [
+const PARTS: [Part; 19] = [
     Part {
         name: "crc",
         tries:
@@ -130,6 +131,11 @@ const PARTS: [Part; 18] = [
         name: "sequence",
         tries: "blocks and trees with sequence numbers around the volume's last one, and single newer blocks",
         run: sequence::sequence,
+    },
+    Part {
+        name: "why",
+        tries: "an extent of a reverse map and shared counts, agreeing or not, and each of its blocks and others",
+        run: why::explanations,
     },
 ];
 
