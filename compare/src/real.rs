@@ -2,14 +2,15 @@
 //! tool printed, and so does the original; a lookup counts the records printed.
 //!
 //! A `.case` file has a geometry and blocks in hex, its `.expect` what was
-//! printed of them. The trees are `rmap`, `refcount`, `bno` (free space by block)
-//! and `cnt` (by size); each has to be linked, by the siblings printed, and is
-//! refused as any other kind. The last two have to hold the same extents. A case
-//! does not have the number of the log's last record: the last sequence number is
-//! taken to be that of the newest block in it, of all trees. A tree is read under it
-//! and under the highest one alike, and on version 5 is refused under one below its
-//! newest block's. An `.ops` file is a history. Each file is named with the calls
-//! that were made for it, and a file that gives rise to none is an error.
+//! printed of them; where there is none, the original's walk stands for it. The trees
+//! are `rmap`, `refcount`, `bno` (free space by block) and `cnt` (by size); each has
+//! to be linked, by the siblings printed, and is refused as any other kind. Of the
+//! first two each block of every extent is explained; the last two have to hold the
+//! same extents. Where a case does not have the number of the log's last record, the
+//! last sequence number is taken to be that of the newest block in it, of all trees. A
+//! tree is read under it and under the highest one alike, and on version 5 is refused
+//! under one below its newest block's. An `.ops` file is a history. Each file is named
+//! with the calls that were made for it, and a file that gives rise to none is an error.
 
 use crate::free;
 use crate::kinds::{self, Kind};
@@ -21,6 +22,7 @@ use crate::sequence;
 use crate::tally::Tally;
 use crate::trees::{walk_figures, Memory, Room};
 use crate::vectors::extent;
+use crate::why::{self, Step, Why};
 use oracle::alloc_btree::FreeExtent;
 use oracle::bare::{WalkAnswer, Walked};
 use oracle::refusal::Outcome;
@@ -32,7 +34,8 @@ use std::fs;
 #[derive(Clone)]
 pub struct RealTree {
     pub g: Geometry,
-    /// The highest sequence number of a block in the case; on version 4 there is none.
+    /// The number of the log's last record that the case has, else the highest of a block
+    /// in it; on version 4 there is none.
     pub last_lsn: u64,
     pub kind: Kind,
     pub root: u32,
@@ -44,6 +47,8 @@ pub struct RealTree {
     pub records: Vec<u8>,
     /// Number, and the blocks before and after it.
     pub siblings: Vec<[u32; 3]>,
+    /// Are the last three what was printed?
+    printed: bool,
 }
 
 fn number<T: std::str::FromStr>(w: &str) -> T {
@@ -76,8 +81,9 @@ pub fn read(case: &str) -> Vec<RealTree> {
         .expect("a .case file")
         .to_string()
         + ".expect";
-    let expect = fs::read_to_string(&expect).unwrap_or_else(|e| panic!("{expect}: {e}"));
+    let expect = fs::read_to_string(expect).ok();
     let mut g = Geometry::v5(512);
+    let mut last = None;
     let mut all: Vec<RealTree> = Vec::new();
     for line in text.lines().filter(|l| !l.starts_with('#')) {
         let w: Vec<&str> = line.split_whitespace().collect();
@@ -87,6 +93,9 @@ pub fn read(case: &str) -> Vec<RealTree> {
             ["agblocks", n] => g.agblocks = number(n),
             ["agno", n] => g.agno = number(n),
             ["uuid", h] => g.meta_uuid = unhex(h).try_into().expect("16 bytes"),
+            ["lsn", n] => last = Some(number(n)),
+            // The blocks of the group, of which no tree says anything.
+            ["length", _] => (),
             ["tree", name, "root", root, "levels", levels] => all.push(RealTree {
                 g,
                 last_lsn: 0,
@@ -97,6 +106,7 @@ pub fn read(case: &str) -> Vec<RealTree> {
                 blocks: vec![],
                 records: vec![],
                 siblings: vec![],
+                printed: expect.is_some(),
             }),
             ["block", n, h] => {
                 let t = all.last_mut().expect("a tree");
@@ -105,12 +115,20 @@ pub fn read(case: &str) -> Vec<RealTree> {
             _ => panic!("{case}: {line}"),
         }
     }
-    let last = all.iter().filter_map(RealTree::newest).max();
+    let newest = all.iter().filter_map(RealTree::newest).max();
+    let last = last.or(newest).unwrap_or(0);
     for t in &mut all {
-        t.last_lsn = last.unwrap_or(0);
+        t.last_lsn = last;
+        if !t.printed {
+            t.read_by_the_original();
+        }
     }
     let mut at = None;
-    for line in expect.lines().filter(|l| !l.starts_with('#')) {
+    for line in expect
+        .iter()
+        .flat_map(|e| e.lines())
+        .filter(|l| !l.starts_with('#'))
+    {
         let w: Vec<&str> = line.split_whitespace().collect();
         match w[0] {
             "tree" => at = all.iter().position(|t| name(t.kind) == w[1]),
@@ -170,6 +188,19 @@ impl RealTree {
             .iter()
             .map(|(_, b)| sequence::number_of(&self.g, b));
         numbers.flatten().max()
+    }
+
+    /// Takes what the original's walk gives for what it holds.
+    fn read_by_the_original(&mut self) {
+        let image = self.image();
+        let a = kinds::bare_walk(&self.g, self.kind, &image, self.root, self.levels);
+        let a = a.outcome.accepted().expect("the original walks it");
+        let named = |&n: &u32| {
+            let [left, right] = links::named(links::block(&self.g, &image, n));
+            [n, left, right]
+        };
+        self.siblings = a.blocks.iter().map(named).collect();
+        (self.blocks, self.records) = (a.blocks, a.records);
     }
 
     /// The same under another last number.
@@ -427,8 +458,12 @@ fn one_tree(case: &str, t: &RealTree) -> u32 {
         0 => String::new(),
         n => format!(", lookups {n}, keys theirs"),
     };
+    let by = match t.printed {
+        true => "as printed",
+        false => "as the original reads them",
+    };
     println!(
-        "{what}: walks {walked}, block checks {checks}{lookups}; blocks {n}, records {count} and siblings as printed, linked; last number {:#x}, {newest}; refused as {}",
+        "{what}: walks {walked}, block checks {checks}{lookups}; blocks {n}, records {count} and siblings {by}, linked; last number {:#x}, {newest}; refused as {}",
         t.last_lsn,
         refused.join(", ")
     );
@@ -460,6 +495,41 @@ fn free_space(case: &str, trees: &[RealTree]) -> u32 {
     5
 }
 
+/// Every extent of the reverse map, one at a time from the lists as they are: each of
+/// its blocks, and the one on either side, is explained. In lists that Linux wrote a
+/// free block has no other holder, and none is held by a count alone.
+fn explained(case: &str, trees: &[RealTree]) -> u32 {
+    let list = |kind| trees.iter().find(|t| t.kind == kind);
+    let (Some(map), Some(counts)) = (list(Kind::RMAP), list(Kind::REFCOUNT)) else {
+        return 0;
+    };
+    let mut tally = Tally::default();
+    let (mut extents, mut inside, mut other_holders) = (0, 0, 0);
+    for x in bare::rmap_list(&map.records) {
+        let (start, end) = (x.startblock, x.startblock + x.blockcount);
+        let asked: Vec<u32> = (start.saturating_sub(1)..=end).collect();
+        why::one(&map.records, &counts.records, x, &asked, &mut tally);
+        let step = Step::new(&map.records, &counts.records, x);
+        for block in start..end {
+            inside += 1;
+            match step.why(block) {
+                Ok(Why::Free) => other_holders += u32::from(step.other(block)),
+                Ok(Why::HeldInCounts(_)) => assert!(!counts.printed, "{case}: {block}"),
+                _ => (),
+            }
+        }
+        extents += 1;
+    }
+    assert!(other_holders == 0 || !counts.printed, "{case}");
+    println!(
+        "{case} rmap and refcount: extents {extents}, explain {}: {}, refused by 31 {}; free with another holder {other_holders}",
+        tally.calls(),
+        tally.ways(why::DONE),
+        tally.calls() - inside,
+    );
+    tally.calls() as u32
+}
+
 /// The name of a file without its folder.
 pub fn file_name(path: &str) -> &str {
     path.rsplit('/').next().unwrap_or(path)
@@ -475,7 +545,7 @@ pub fn real(files: &[String]) {
         } else {
             let trees = read(file);
             let calls: u32 = trees.iter().map(|t| one_tree(name, t)).sum();
-            calls + free_space(name, &trees)
+            calls + free_space(name, &trees) + explained(name, &trees)
         };
         assert!(calls > 0, "{file} made no call");
         all += calls;

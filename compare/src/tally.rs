@@ -77,6 +77,11 @@ impl Tally {
         assert_eq!(met, ways, "{what}: not all ways were met");
     }
 
+    /// The ways in which some calls came out, each with how often.
+    pub fn ways(&self, what: &str) -> String {
+        self.noted.get(what).map_or(String::new(), said)
+    }
+
     /// The call was met with each of these answers and with no other, or the run
     /// has not compared what it should.
     pub fn met_all(&self, call: &str, answers: &[u32]) {
@@ -119,11 +124,15 @@ impl Tally {
             println!("{call:<16} {total:>9}   {}", by.join(", "));
         }
         for (what, by) in self.noted.iter().chain(&self.measured) {
-            let by: Vec<String> = by.iter().map(|(k, n)| format!("{k} {n}")).collect();
-            println!("{what}: {}", by.join(", "));
+            println!("{what}: {}", said(by));
         }
         println!("{:<16} {:>9}   no difference", "all", self.calls());
     }
+}
+
+fn said(by: &BTreeMap<&str, u64>) -> String {
+    let by: Vec<String> = by.iter().map(|(k, n)| format!("{k} {n}")).collect();
+    by.join(", ")
 }
 
 /// The end: a difference, with the input.
