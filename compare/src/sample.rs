@@ -5,7 +5,7 @@
 //!
 //! | number | |
 //! |---|---|
-//! | 0 | the call: 1 crc32c, 2 check_rmaps, 3 check_refcounts, 4 check_block, 5 plan, 6 build, 7 walk, 8 insert, 9 insert_shared, 10 remove, 11 release, 12 let_go, 13 a walk over blocks that are given one by one, 14 take_held, 15 crc32c_singly, 16 walk_linked, 17 a walk_linked over blocks that are given one by one, 18 lookup, 19 check_by_block, 20 check_by_size, 21 same_extents, 22 walk_textbook, 23 a walk_textbook over blocks that are given one by one; 0 after the last case |
+//! | 0 | the call: 1 crc32c, 2 check_rmaps, 3 check_refcounts, 4 check_block, 5 plan, 6 build, 7 walk, 8 insert, 9 insert_shared, 10 remove, 11 release, 12 let_go, 13 a walk over blocks that are given one by one, 14 take_held, 15 crc32c_singly, 16 walk_linked, 17 a walk_linked over blocks that are given one by one, 18 lookup, 19 check_by_block, 20 check_by_size, 21 same_extents, 22 walk_textbook, 23 a walk_textbook over blocks that are given one by one, 24 explain; 0 after the last case |
 //! | 1 | the answer |
 //! | 2 to 9 | the four figures, high half first |
 //! | 10 to 13 | version, block size, agblocks, agno |
@@ -17,7 +17,7 @@
 //! | 23, 24 | offset |
 //! | 25, 26 | bytes of the two inputs |
 //! | 27, 28, 29 | bytes of the three outputs; of a walk (7, 13, 16, 17, 22 and 23) 29 is 1 where it leaves stack and scratch zero, 0 where they are untouched, of a lookup the same of its stack |
-//! | 30, 31 | of a walk: places of the stack, of a textbook walk 0, and of the scratch; of a lookup in 30 those of the stack |
+//! | 30, 31 | of a walk: places of the stack, of a textbook walk 0, and of the scratch; of a lookup in 30 those of the stack; of explain in 30 the block asked |
 //! | 32, 33 | the last sequence number, high half first; 0 for a call without a geometry |
 //!
 //! Then the inputs, then what each output holds afterwards, all of it: outputs
@@ -42,6 +42,7 @@ use crate::real;
 use crate::sequence;
 use crate::textbook;
 use crate::trees;
+use crate::why;
 use oracle::ag_btree::reach::stamp;
 use oracle::alloc_btree::Order;
 use oracle::refusal::Outcome;
@@ -53,7 +54,7 @@ use std::collections::{BTreeMap, BTreeSet};
 const FILL: u8 = 0xA5;
 
 /// The calls by their number in a case.
-const CALLS: [&str; 24] = [
+const CALLS: [&str; 25] = [
     "end",
     "crc32c",
     "check_rmaps",
@@ -78,6 +79,7 @@ const CALLS: [&str; 24] = [
     "same_extents",
     "walk_textbook",
     "walk_textbook of real blocks",
+    "explain",
 ];
 
 /// A textbook walk; the next is one of real blocks.
@@ -959,6 +961,39 @@ fn sequence_cases(files: &[String], cases: &mut Cases) {
     }
 }
 
+/// Explanations with each of their answers, and in each way that it comes about, at
+/// least five times.
+fn why_cases(cases: &mut Cases) {
+    const CALL: u32 = 24;
+    const LEAST: usize = 5;
+    let r = &mut Random(2029);
+    let mut shown: BTreeMap<_, usize> = BTreeMap::new();
+    for _ in 0..20_000 {
+        let (map, counts, x) = why::pair(r);
+        let step = why::Step::new(&map, &counts, x);
+        let block = r.pick(&why::around(&map, &counts, x));
+        let (said, ways) = (step.said(block), step.ways(block));
+        let few = |way| shown.get(way).is_none_or(|&n| n < LEAST);
+        if !ways.iter().any(few) && !cases.wants(CALL, said.0, LEAST) {
+            continue;
+        }
+        for way in ways {
+            *shown.entry(way).or_default() += 1;
+        }
+        let mut c = Case::new(CALL, said).extent(x).given(&map, &counts);
+        c.head[30] = block;
+        cases.add(c);
+    }
+    for n in why::ANSWERS {
+        assert!(!cases.wants(CALL, n, LEAST), "explain, few answer {n}");
+    }
+    let ways: usize = why::WAYS.iter().map(|w| w.1).sum();
+    assert!(shown.len() == ways && shown.values().all(|&n| n >= LEAST));
+    for ((what, how), n) in shown {
+        println!("{what}: {how} {n}");
+    }
+}
+
 /// `sample FILE [CASE ..]`.
 pub fn sample(words: &[String]) {
     let (file, real) = words.split_first().expect("a file to write");
@@ -977,6 +1012,7 @@ pub fn sample(words: &[String]) {
     stack_cases(&mut cases);
     textbook_cases(real, &mut cases);
     sequence_cases(real, &mut cases);
+    why_cases(&mut cases);
     let mut out = Vec::new();
     for c in &cases.all {
         out.extend(number_bytes(&c.head));

@@ -12,6 +12,7 @@ use list_calls::edits::kf_let_go;
 use list_calls::edits::kf_release;
 use list_calls::edits::kf_remove;
 use list_calls::edits::kf_take_held;
+use list_calls::explaining::kf_explain;
 use show::places::all32;
 use show::places::all64;
 use tree_calls::block_calls::kf_check_block;
@@ -588,6 +589,21 @@ fn on_take_held(
     said_as_due(head, answer, said)
 }
 
+fn on_explain(head: &[u8], map: &[u8], counts: &[u8]) -> bool {
+    let mut said = [0xA5u64; 4];
+    let answer = kf_explain(
+        map,
+        counts,
+        number(head, 19),
+        number(head, 20),
+        wide(head, 21),
+        wide(head, 23),
+        number(head, 30),
+        &mut said,
+    );
+    said_as_due(head, answer, said)
+}
+
 // The call of a case on its two inputs and three outputs: are answer and figures the same, and what is not in an output?
 fn call_as_due(
     head: &[u8],
@@ -612,6 +628,7 @@ fn call_as_due(
         14 => on_take_held(head, a, b, x, y),
         18 => on_lookup(head, a, b, x, list),
         21 => on_two_lists(head, a, b),
+        24 => on_explain(head, a, b),
         _ => false,
     }
 }
