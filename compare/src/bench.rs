@@ -5,7 +5,9 @@ use crate::free;
 use crate::kinds::{self, Kind};
 use crate::library::{self, Edit, Walk};
 use crate::links;
+use crate::lists::{self, Count};
 use crate::vectors as layer;
+use crate::why::Why;
 use oracle::alloc_btree::FreeExtent;
 use oracle::refusal::Outcome;
 use oracle::rmap::Rmap;
@@ -764,12 +766,12 @@ fn lets_go(rows: &mut Vec<Row>) {
 
 /// The shortest of several runs of both, by turns.
 fn by_turns(
-    mut lent: impl FnMut() -> Duration,
-    mut vectors: impl FnMut() -> Duration,
+    mut one: impl FnMut() -> Duration,
+    mut other: impl FnMut() -> Duration,
 ) -> [Duration; 2] {
     let mut least = [Duration::MAX; 2];
     for _ in 0..TIMES {
-        least = [least[0].min(lent()), least[1].min(vectors())];
+        least = [least[0].min(one()), least[1].min(other())];
     }
     least
 }
@@ -869,11 +871,83 @@ fn edit_vectors(n: usize) {
     print_vectors("`let_go`, `Group::let_go`", &size, times);
 }
 
+/// So many records, two of different owners at each eighth block, and shared counts over
+/// the last so many of the pairs. The last record is a block longer than the other one
+/// over its blocks.
+fn shared_lists(n: usize, shared: usize) -> (Vec<Rmap>, Vec<u8>) {
+    let record = |i: usize| Rmap {
+        startblock: 8 * (i / 2) as u32,
+        blockcount: 4 + u32::from(i == n - 1),
+        owner: 128 + (i % 2) as i64,
+        offset: i as u64 * 31,
+    };
+    let count = |i: usize| Count {
+        start: 8 * i as u32,
+        count: 4,
+        owners: 2,
+    };
+    let counts: Vec<Count> = (n / 2 - shared..n / 2).map(count).collect();
+    ((0..n).map(record).collect(), lists::count_bytes(&counts))
+}
+
+/// Explanations by turns with the whole letting go of the same extent, the last record
+/// of the list, both of the library. The original has no such call.
+fn why() {
+    println!("| the block | records and counts | explain, ms | let_go, ms | ratio |");
+    println!("|---|---|---:|---:|---:|");
+    let sizes = [(1_000_000, 500_000, 1), (1_000_000, 1, 1)];
+    let small = [(1_000, 500, 1_000), (1_000, 1, 1_000)];
+    for (n, shared, times) in sizes.into_iter().chain(small) {
+        let (list, counts) = shared_lists(n, shared);
+        let map = bare::rmap_bytes(&list);
+        let x = list[n - 1];
+        let last = x.startblock + x.blockcount - 1;
+        // No record of its owner lines up with this one.
+        let off = Rmap {
+            offset: x.offset + 1,
+            ..x
+        };
+        let held = Why::HeldInMap(n - 2);
+        let mut new = [map.len() + 24, counts.len() + 24, 16].map(|n| vec![0; n]);
+        for (what, x, block, why) in [
+            ("held by a record", x, last - 1, held),
+            ("held by a record, no offset lines up", off, last - 1, held),
+            ("free", x, last, Why::Free),
+        ] {
+            let [a, b, c] = &mut new;
+            let least = by_turns(
+                || {
+                    once(|| {
+                        for _ in 0..times {
+                            let said = library::explain(&map, &counts, x, block);
+                            assert_eq!((said.number, said.figures), (0, why.figures()));
+                        }
+                    })
+                },
+                || {
+                    once(|| {
+                        for _ in 0..times {
+                            assert_eq!(library::let_go(&map, &counts, x, a, b, c).number, 0);
+                        }
+                    })
+                },
+            );
+            let size = match times {
+                1 => format!("{n} and {shared}"),
+                _ => format!("{n} and {shared}, {times} times"),
+            };
+            let [explain, let_go] = least.map(ms);
+            let ratio = explain / let_go;
+            println!("| {what} | {size} | {explain:.3} | {let_go:.3} | {ratio:.2} |");
+        }
+    }
+}
+
 /// A part of the table of calls.
 type Part = fn(&mut Vec<Row>);
 
 /// The tables beside it.
-const OTHER_PARTS: [&str; 8] = [
+const OTHER_PARTS: [&str; 9] = [
     "forms",
     "linked",
     "textbook",
@@ -882,6 +956,7 @@ const OTHER_PARTS: [&str; 8] = [
     "vectors",
     "free_trees",
     "same",
+    "why",
 ];
 
 /// All of it, or the parts named.
@@ -939,5 +1014,8 @@ pub fn bench(words: &[String]) {
     }
     if wanted("same") {
         sameness();
+    }
+    if wanted("why") {
+        why();
     }
 }
