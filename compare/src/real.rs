@@ -504,7 +504,7 @@ fn explained(case: &str, trees: &[RealTree]) -> u32 {
         return 0;
     };
     let mut tally = Tally::default();
-    let (mut extents, mut inside, mut other_holders) = (0, 0, 0);
+    let (mut extents, mut made, mut inside, mut other_holders) = (0, 0, 0, 0);
     for x in bare::rmap_list(&map.records) {
         let (start, end) = (x.startblock, x.startblock + x.blockcount);
         let asked: Vec<u32> = (start.saturating_sub(1)..=end).collect();
@@ -519,13 +519,13 @@ fn explained(case: &str, trees: &[RealTree]) -> u32 {
             }
         }
         extents += 1;
+        made += asked.len();
     }
     assert!(other_holders == 0 || !counts.printed, "{case}");
     println!(
-        "{case} rmap and refcount: extents {extents}, explain {}: {}, refused by 31 {}; free with another holder {other_holders}",
-        tally.calls(),
+        "{case} rmap and refcount: extents {extents}, explain {made} and Group::why as many: {}, refused by 31 {}; free with another holder {other_holders}",
         tally.ways(why::DONE),
-        tally.calls() - inside,
+        made - inside,
     );
     tally.calls() as u32
 }

@@ -1,13 +1,15 @@
 //! Why a block stays held. The original has no such call: the questions before
 //! 31 are those of its letting go, and which record decides is document 02's words
 //! over the records. Each answer is held against the library's own letting go of the
-//! same extent besides.
+//! same extent besides, and the layer over vectors against the same reference.
 
 use crate::edits::agreeing;
 use crate::lent::hex;
 use crate::library;
 use crate::lists::{self, Count, END, FILE, STAGING};
 use crate::tally::{differ, Tally};
+use crate::vectors::extent;
+use kf::{Cause, Group};
 use oracle::rmap::{Rmap, OFF_BMBT_BLOCK, OFF_UNWRITTEN};
 use oracle::sample::Random;
 use oracle::{bare, paper};
@@ -226,11 +228,44 @@ impl Gone {
     }
 }
 
+/// Does the layer over vectors say the same of a block, with the record in its list? And
+/// by which number.
+fn over_vectors(group: &Group, step: &Step, block: u32) -> (bool, u32) {
+    let count = |i: usize| {
+        let c = step.counts[i];
+        kf::Refcount {
+            startblock: c.start,
+            blockcount: c.count,
+            refcount: c.owners,
+        }
+    };
+    match (group.why(&extent(step.x), block), step.why(block)) {
+        (Err(refusal), due) => (due == Err(refusal.number), refusal.number),
+        (Ok(_), Err(_)) => (false, 0),
+        (Ok(got), Ok(why)) => {
+            let (cause, list) = match why {
+                Why::Free => (Cause::Free, &group.map),
+                Why::HeldInMap(i) => (Cause::Held(extent(step.map[i])), &group.map),
+                Why::HeldInCounts(i) => (Cause::Shared(count(i)), &group.counts),
+                Why::Staging(i) => (Cause::Staging(count(i)), &group.counts),
+            };
+            let [_, _, from, len] = why.figures().map(|n| n as usize);
+            let there = len == 0 || got.record.as_ptr() == list[from..].as_ptr();
+            let record = got.record == step.part(why);
+            (
+                got.block == block && got.cause == cause && record && there,
+                0,
+            )
+        }
+    }
+}
+
 /// The blocks asked of one letting go, each beside the reference and beside what
 /// the letting go itself comes to.
 pub fn one(map: &[u8], counts: &[u8], x: Rmap, asked: &[u32], tally: &mut Tally) {
     let step = Step::new(map, counts, x);
     let gone = Gone::new(map, counts, x);
+    let group = Group::new(map.to_vec(), counts.to_vec());
     for &block in asked {
         let input = || {
             format!(
@@ -257,7 +292,13 @@ pub fn one(map: &[u8], counts: &[u8], x: Rmap, asked: &[u32], tally: &mut Tally)
                 differ("explain", "record", &hex(part), &hex(&record), &input());
             }
         }
+        let (same, number) = over_vectors(&group, &step, block);
+        if !same {
+            let layer = format!("{:?}", group.why(&extent(x), block));
+            differ("Group::why", "result", &layer, &say(told), &input());
+        }
         tally.add("explain", got.number);
+        tally.add("Group::why", number);
         for (what, how) in step.ways(block) {
             tally.note(what, how);
         }
@@ -463,7 +504,9 @@ pub fn explanations(r: &mut Random, scale: u64, tally: &mut Tally) {
         let (map, counts, x) = pair(r);
         one(&map, &counts, x, &around(&map, &counts, x), tally);
     }
-    tally.met_all("explain", &ANSWERS);
+    for call in ["explain", "Group::why"] {
+        tally.met_all(call, &ANSWERS);
+    }
     for (what, ways) in WAYS {
         tally.met_ways(what, ways);
     }
