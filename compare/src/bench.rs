@@ -890,11 +890,73 @@ fn shared_lists(n: usize, shared: usize) -> (Vec<Rmap>, Vec<u8>) {
     ((0..n).map(record).collect(), lists::count_bytes(&counts))
 }
 
-/// Explanations by turns with the whole letting go of the same extent, the last record
-/// of the list, both of the library. The original has no such call.
+/// An extent of one owner, and over all its blocks but the first single blocks of
+/// another, of which no two join, under one shared count.
+fn scattered_lists(n: usize) -> (Vec<Rmap>, Vec<u8>) {
+    let whole = Rmap {
+        startblock: 0,
+        blockcount: n as u32,
+        owner: 128,
+        offset: 0,
+    };
+    let block = |i: usize| Rmap {
+        startblock: i as u32,
+        blockcount: 1,
+        owner: 129,
+        offset: 2 * i as u64,
+    };
+    let count = Count {
+        start: 1,
+        count: n as u32 - 1,
+        owners: 2,
+    };
+    let list = std::iter::once(whole).chain((1..n).map(block)).collect();
+    (list, lists::count_bytes(&[count]))
+}
+
+/// A block of an extent explained by turns with the whole letting go of that extent.
+fn why_row(what: &str, size: &str, times: u32, map: &[u8], counts: &[u8], asked: Asked) {
+    let Asked { x, block, why } = asked;
+    let mut new = [map.len() + 24, counts.len() + 24, 16].map(|n| vec![0; n]);
+    let [a, b, c] = &mut new;
+    let least = by_turns(
+        || {
+            once(|| {
+                for _ in 0..times {
+                    let said = library::explain(map, counts, x, block);
+                    assert_eq!((said.number, said.figures), (0, why.figures()));
+                }
+            })
+        },
+        || {
+            once(|| {
+                for _ in 0..times {
+                    assert_eq!(library::let_go(map, counts, x, a, b, c).number, 0);
+                }
+            })
+        },
+    );
+    let [explain, let_go] = least.map(ms);
+    let ratio = explain / let_go;
+    println!("| {what} | {size} | {explain:.3} | {let_go:.3} | {ratio:.2} |");
+}
+
+/// A block of an extent that is let go, and what decides about it.
+struct Asked {
+    x: Rmap,
+    block: u32,
+    why: Why,
+}
+
+/// Explanations beside the whole letting go of the same extent, both of the library. The
+/// original has no such call.
 fn why() {
     println!("| the block | records and counts | explain, ms | let_go, ms | ratio |");
     println!("|---|---|---:|---:|---:|");
+    let of = |n, shared, times| match times {
+        1 => format!("{n} and {shared}"),
+        _ => format!("{n} and {shared}, {times} times"),
+    };
     let sizes = [(1_000_000, 500_000, 1), (1_000_000, 1, 1)];
     let small = [(1_000, 500, 1_000), (1_000, 1, 1_000)];
     for (n, shared, times) in sizes.into_iter().chain(small) {
@@ -908,38 +970,25 @@ fn why() {
             ..x
         };
         let held = Why::HeldInMap(n - 2);
-        let mut new = [map.len() + 24, counts.len() + 24, 16].map(|n| vec![0; n]);
         for (what, x, block, why) in [
             ("held by a record", x, last - 1, held),
             ("held by a record, no offset lines up", off, last - 1, held),
             ("free", x, last, Why::Free),
         ] {
-            let [a, b, c] = &mut new;
-            let least = by_turns(
-                || {
-                    once(|| {
-                        for _ in 0..times {
-                            let said = library::explain(&map, &counts, x, block);
-                            assert_eq!((said.number, said.figures), (0, why.figures()));
-                        }
-                    })
-                },
-                || {
-                    once(|| {
-                        for _ in 0..times {
-                            assert_eq!(library::let_go(&map, &counts, x, a, b, c).number, 0);
-                        }
-                    })
-                },
-            );
-            let size = match times {
-                1 => format!("{n} and {shared}"),
-                _ => format!("{n} and {shared}, {times} times"),
-            };
-            let [explain, let_go] = least.map(ms);
-            let ratio = explain / let_go;
-            println!("| {what} | {size} | {explain:.3} | {let_go:.3} | {ratio:.2} |");
+            let size = of(n, shared, times);
+            why_row(what, &size, times, &map, &counts, Asked { x, block, why });
         }
+    }
+    for (n, times) in [(1_000_000, 1), (1_000, 1_000)] {
+        let (list, counts) = scattered_lists(n);
+        let map = bare::rmap_bytes(&list);
+        let asked = Asked {
+            x: list[0],
+            block: n as u32 - 1,
+            why: Why::HeldInMap(n - 1),
+        };
+        let what = "held by the last of many records in the extent";
+        why_row(what, &of(n, 1, times), times, &map, &counts, asked);
     }
 }
 

@@ -1,4 +1,5 @@
--- 22 of the counts, which the reverse map's 22 answers; and what a refusal by the last question says.
+-- Questions asked in two parts: a refusal of the first is one of the whole, and where the first part holds the second decides. And 22 of the counts,
+-- which the reverse map's 22 answers. And what a refusal by the last question says.
 -- Assumes nothing.
 use Prim.Native.Nat.{ℕ, _^_}
 use mathlib.Core.Bool.{Bool, true, false, not, _&&_}
@@ -14,6 +15,17 @@ use Rattle.lists.specs.Extent.{goodExtent}
 use Rattle.codec.proofs.Meaning.{AllHold}
 use Rattle.lists.proofs.Cases.{split, conj, and-true, not-false}
 use Rattle.lists.proofs.RmapOrder.{good-facts}
+
+pub answer-refused : {A B : Type 0} (qs ps : List Question) (a : A) (o : Outcome B) (n : ℕ) (v : Values) → answer qs (done a) ≡ refused n v
+    → answer (qs ++ ps) o ≡ refused n v
+answer-refused [] ps a o n v e = cc
+answer-refused (q ∷ qs) ps a o n v e =
+    split (q .holds) (λ h. rw h (answer-refused qs ps a o n v (rw h at e))) (λ h. let f : refused (q .number) (q .values) ≡ refused n v = rw h at e in rw h cc)
+
+pub answer-done : {A B : Type 0} (qs ps : List Question) (a r : A) (o : Outcome B) → answer qs (done a) ≡ done r → answer (qs ++ ps) o ≡ answer ps o
+answer-done [] ps a r o e = refl
+answer-done (q ∷ qs) ps a r o e =
+    split (q .holds) (λ h. rw h (answer-done qs ps a r o (rw h at e))) (λ h. let f : refused (q .number) (q .values) ≡ done r = rw h at e in cc)
 
 -- a good extent is good by start and count
 pub extent-good : (x : Rmap) → good x ≡ true → goodExtent (x .startblock) (x .blockcount) ≡ true

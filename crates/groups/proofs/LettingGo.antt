@@ -31,8 +31,7 @@ use Rattle.groups.specs.Joint.{NewLists}
 use Rattle.groups.specs.LetGo.{letting, letGoQuestions}
 use Rattle.groups.specs.Answer.{sizes}
 use Rattle.groups.specs.inner.Measured.{LetGoMeasured}
-use Rattle.lists.proofs.Asking.{answer-refused, answer-done}
-use Rattle.groups.proofs.Asking.{extent-good}
+use Rattle.groups.proofs.Asking.{answer-refused, answer-done, extent-good}
 
 -- ---- the lengths of an outcome
 

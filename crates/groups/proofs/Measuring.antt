@@ -25,7 +25,7 @@ use Rattle.groups.specs.declared.measured.Measure.{Measure}
 use Rattle.groups.specs.Joint.{NewLists, fitAll, jointOutcome}
 use Rattle.groups.specs.Answer.{GroupEditIs}
 use Rattle.groups.specs.inner.Measured.{ReadyIs}
-use Rattle.lists.proofs.Asking.{answer-refused, answer-done}
+use Rattle.groups.proofs.Asking.{answer-refused, answer-done}
 
 -- a question list and what it leads to, with 26 behind it
 module _ (qs : List Question) (g : NewLists) (map counts free : List ℕ) where

@@ -46,8 +46,7 @@ use Rattle.groups.specs.TakeHeld.{raising, takeHeldQuestions}
 use Rattle.groups.specs.Answer.{sizes}
 use Rattle.groups.specs.inner.Measured.{TakeHeldMeasured}
 use Rattle.groups.specs.inner.Order.{afterCounts, countsBefore, heldBefore}
-use Rattle.lists.proofs.Asking.{answer-refused, answer-done}
-use Rattle.groups.proofs.Asking.{extent-good}
+use Rattle.groups.proofs.Asking.{answer-refused, answer-done, extent-good}
 use Rattle.groups.proofs.HeldQuestions.{list-refuses, extent-refuses, owners-refuse, counts-refuse}
 
 -- ---- the length of an outcome

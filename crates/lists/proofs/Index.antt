@@ -11,8 +11,7 @@ use lib.ListN.{length, getD, take, drop}
 use borrow.Author.Tests.{lt-ltb, le-ltb}
 use Rattle.codec.specs.Rmaps.{least}
 use Rattle.codec.specs.declared.rmap.Rmap.{Rmap}
-use Rattle.lists.specs.RmapEdits.{indexWhere, first, isSome, any, replace, nothing}
-use Rattle.lists.specs.inner.Searches.{noteOf}
+use Rattle.lists.specs.RmapEdits.{indexWhere, noteOf, first, isSome, any, replace, nothing}
 use Rattle.lists.proofs.Cases.{split, tests}
 
 -- ---- records of any kind
@@ -122,6 +121,11 @@ module _ (p : Rmap → Bool) where
       (λ f. let k : suc (indexWhere q l) < suc (indexWhere p l) = rw (e, f) at h in
       let n : indexWhere p l - suc (indexWhere q l) ≡ suc (indexWhere p l) - suc (suc (indexWhere q l)) = omega arith in
       rw (e, f, e) (ap (λ (m : List Rmap). r ∷ m) (take-two q l (omega arith) ∙ ap (λ (n : ℕ). take (indexWhere q l) l ++ take n (drop (suc (indexWhere q l)) l) ++ drop (suc (indexWhere p l)) l) n))))
+
+-- nothing is noted
+pub note-none : (found n i : ℕ) → found ≤ n → found ≡ noteOf found n i false
+unfolding noteOf
+note-none found n i h = split (ltb found n) (λ e. rw e refl) (λ e. rw e (omega tests))
 
 -- the index found among the first i records, or n
 unfoldable pub seen : ℕ → ℕ → ℕ → ℕ

@@ -1,5 +1,4 @@
 pub mod Cases
-pub mod Asking
 pub mod Found
 pub mod RmapOrder
 pub mod Holders

@@ -5,11 +5,11 @@ use native.Mathlib.Omega.{arith}
 use mathlib.Core.Path.{_≡_, refl, sym, ap, _∙_}
 use mathlib.Core.Bool.{Bool, true, false, not, cond}
 use mathlib.Core.List.{List, [], _∷_}
-use lib.Dec.{ltb, leb, eqb}
+use lib.Dec.{leb, eqb}
 use lib.ListN.{length, getD}
 use borrow.Author.Tests.{lt-ltb, le-ltb, le-leb, lt-leb, eqb-false}
 use Rattle.codec.specs.Bytes.{bytesAt, withBytes}
-use Rattle.codec.specs.Question.{none, done, refused, ask}
+use Rattle.codec.specs.Question.{none, done, refused}
 use Rattle.codec.specs.Records.{recordsOf, bytesOf, rmaps}
 use Rattle.codec.specs.Rmaps.{end, flags, reserved, mapping, exempt, least, accepted, good}
 use Rattle.codec.specs.declared.rmap.Rmap.{Rmap}
@@ -19,28 +19,25 @@ use Rattle.lists.specs.declared.EditRefusal.the-variants as why
 use Rattle.lists.specs.declared.Edited.the-variants as said
 use Rattle.lists.specs.declared.findings.Asked.the-variants as asked
 use Rattle.lists.specs.declared.splice.Edit.{Edit}
-use Rattle.lists.specs.declared.splice.Edit.the-variants.{Remove}
 use Rattle.lists.specs.declared.splice.Part.{Part}
 use Rattle.lists.specs.declared.splice.Splice.{Splice}
 use Rattle.lists.specs.declared.splice.Prepared.{Prepared}
 use Rattle.lists.specs.declared.splice.Prepared.the-variants as prepared
 use Rattle.lists.specs.Held.{heldNone, noOverlap}
-use Rattle.lists.specs.RmapEdits.{indexWhere, any, continues, joined, overlaps, contained, cutAt, later}
-use Rattle.lists.specs.Edits.{mapQuestions, written, allowed, edited}
+use Rattle.lists.specs.RmapEdits.{indexWhere, any, continues, joined, overlaps, later}
+use Rattle.lists.specs.Edits.{written, allowed, edited}
 use Rattle.lists.specs.Answer.{editNumber, lengthOf, EditIs}
-use Rattle.lists.specs.Splice.{editBefore26, cutBefore26, partsOf, partCount, listOf, PartsGood, SpliceGood, PreparedIs, PreparedGood, preparedOutcome}
-use Rattle.lists.specs.declared.findings.Scan.{Scan}
-use Rattle.lists.specs.inner.Searches.{tests, Finds, TakeGood, AskedIs}
+use Rattle.lists.specs.Splice.{editBefore26, partsOf, partCount, listOf, PartsGood, SpliceGood, PreparedIs, PreparedGood, preparedOutcome}
+use Rattle.lists.specs.inner.Searches.{TakeGood, AskedIs}
 use Rattle.lists.specs.inner.Splicing.{editOutcome, joinAt, roomed}
 use Rattle.lists.proofs.Cases.{or-l}
-use Rattle.lists.proofs.Asking.{answer-refused}
 use Rattle.lists.proofs.Index.{index-le, any-index}
 use Rattle.lists.proofs.Holding.{overlaps-tell}
 use Rattle.lists.proofs.RmapOrder.{fileEnd, each, accepted-facts, good-facts, facts-good}
 use Rattle.lists.proofs.Joining.{join-out, join-miss, join-hit, join-fits}
 use Rattle.lists.proofs.Scanning.{read-at}
 use Rattle.lists.proofs.Writing.{size-good}
-use Rattle.lists.proofs.Splicing.{asked-good, prepare-done, prepare-refused, room-asked, chosen-at, contained-at}
+use Rattle.lists.proofs.Splicing.{prepare-done, prepare-refused, room-asked}
 
 -- ---- records and indices
 
@@ -166,28 +163,3 @@ module _ (b : List ℕ) (x : Rmap) (g : TakeGood b x) (i : ℕ) (e : i ≡ index
 
   pub held-found : i < length b / 24 → heldNone (recordsOf rmaps b) (x .startblock) (x .blockcount) ≡ false
   held-found h = told ∙ one-found (overlaps x) b i e h
-
--- ---- where a removal cuts
-
-module _ (b : List ℕ) (x : Rmap) where
-  abbrev l : List Rmap
-  l = recordsOf rmaps b
-
-  pub cut-asked : (q : EditRefusal) → AskedIs Remove b x (asked.Refused q) → refused (editNumber q) none ≡ cutBefore26 b x
-  unfolding cutBefore26
-  cut-asked q h = sym (answer-refused (mapQuestions b x) (ask 24 (contained x l) ∷ []) [] (done (cutAt x l)) (editNumber q) none (h [] (done [])))
-
-  module _ (g : TakeGood b x) (s : Scan) (f : Finds Remove x l s) (at : ℕ) (e : at ≡ cond (ltb (s .aligned) (length b / 24)) (s .aligned) (s .containing)) where
-    found : contained x l ≡ ltb at (length b / 24)
-    unfolding tests
-    found = contained-at b x g (length b / 24) (sym (length-recordsOf rmaps b)) (s .aligned) (s .containing) at (f .aligned) (f .containing) e
-
-    pub cut-missing : length b / 24 ≤ at → refused 24 none ≡ cutBefore26 b x
-    unfolding cutBefore26
-    cut-missing h = sym (asked-good b x (ask 24 (contained x l) ∷ []) (done (cutAt x l)) g ∙ rw (found, le-ltb at (length b / 24) h) refl)
-
-    pub cut-found : at < length b / 24 → done at ≡ cutBefore26 b x
-    unfolding cutBefore26 tests
-    cut-found h =
-        let c : at ≡ cutAt x l = chosen-at b x g (length b / 24) (sym (length-recordsOf rmaps b)) (s .aligned) (s .containing) at (f .aligned) (f .containing) e in
-        ap done c ∙ sym (asked-good b x (ask 24 (contained x l) ∷ []) (done (cutAt x l)) g ∙ rw (found, lt-ltb at (length b / 24) h) refl)

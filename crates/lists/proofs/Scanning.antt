@@ -20,10 +20,10 @@ use Rattle.lists.specs.declared.splice.Edit.the-variants.{Insert, Insert
 use Rattle.lists.specs.declared.findings.Hits.{Hits}
 use Rattle.lists.specs.declared.findings.Scan.{Scan}
 use Rattle.lists.specs.RmapEdits.{indexWhere, continues, overlaps, clash, contains, linesUp}
-use Rattle.lists.specs.inner.Searches.{seat, touches, tests, noteOf, Noted, ScanIs}
+use Rattle.lists.specs.inner.Searches.{seat, touches, tests, Noted, ScanIs}
 use Rattle.lists.proofs.Cases.{split, tests as facts, and-l, and-r, and-true}
 use Rattle.lists.proofs.Found.{overlaps-ends, contains-ends, continues-end}
-use Rattle.lists.proofs.Index.{index-le, index-same, seen, seen-none, seen-le, seen-next, seen-all}
+use Rattle.lists.proofs.Index.{index-le, index-same, note-none, seen, seen-none, seen-le, seen-next, seen-all}
 use Rattle.lists.proofs.RmapOrder.{accepted-facts}
 use Rattle.lists.proofs.Seats.{seat-past, seat-at}
 
@@ -84,11 +84,6 @@ module _ (x r : Rmap) where
           never (continues x r) (λ e. let h = continues-end x r e in (omega arith, omega arith)),
         ) refl
     tests-apart Remove = rw (never (contains x r) (λ e. let h = contains-ends x r e in (omega arith, omega arith))) refl
-
--- nothing is noted
-note-none : (found n i : ℕ) → found ≤ n → found ≡ noteOf found n i false
-unfolding noteOf
-note-none found n i h = split (ltb found n) (λ e. rw e refl) (λ e. rw e (omega facts))
 
 pub noted-apart : (e : Edit) (x r : Rmap) (s : Scan) (i n : ℕ) → touches x r ≡ false → (s .conflict ≤ n) × (s .before ≤ n) × (s .after ≤ n) × (s .aligned ≤ n) × (s .containing ≤ n) → Noted (tests e x r) i n s s
 noted-apart e x r s i n t h =

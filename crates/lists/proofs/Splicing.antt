@@ -21,7 +21,7 @@ use Rattle.lists.specs.declared.Edited.the-variants as said
 use Rattle.lists.specs.declared.splice.Edit.{Edit}
 use Rattle.lists.specs.declared.splice.Edit.the-variants.{Insert, InsertShared, Remove}
 use Rattle.lists.specs.declared.findings.Joined.{Joined}
-use Rattle.lists.specs.RmapEdits.{indexWhere, insert, insertShared, contained, remove, continues, joined, cutAt, front, later}
+use Rattle.lists.specs.RmapEdits.{indexWhere, insert, insertShared, contained, remove, continues, joined, chosen, front, later}
 use Rattle.lists.specs.Edits.{mapQuestions, fits, insertOutcome, insertSharedOutcome, removeOutcome, allowed, edited, editQuestions}
 use Rattle.lists.specs.Answer.{editNumber}
 use Rattle.lists.specs.Splice.{editBefore26, between, partsOf, PartsGood}
@@ -38,7 +38,7 @@ use Rattle.lists.proofs.Removing.{strictIndex, anyIndex, chosen-index, 
 
 -- ---- the questions on the list and on the extent
 
-module _ {A : Type 0} (b : List ℕ) (x : Rmap) (qs : List Question) (o : Outcome A) where
+module _ (b : List ℕ) (x : Rmap) (qs : List Question) (o : Outcome (List Rmap)) where
   pub asked-length : (length b % 24 ≡ 0 → ⊥) → answer (mapQuestions b x ++ qs) o ≡ refused (editNumber (why.List Length)) none
   unfolding whole
   asked-length h = rw (ne-eqb (length b % 24) 0 h) refl
@@ -225,7 +225,7 @@ piece-le false = omega arith
 
 module _ (b : List ℕ) (x : Rmap) (g : TakeGood b x) (n : ℕ) (en : n ≡ length (recordsOf rmaps b)) (i j at : ℕ) (ei : i ≡ strictIndex x (recordsOf rmaps b))
     (ej : j ≡ anyIndex x (recordsOf rmaps b)) (ea : at ≡ cond (ltb i n) i j) where
-  pub chosen-at : at ≡ cutAt x (recordsOf rmaps b)
+  chosen-at : at ≡ indexWhere (chosen x (recordsOf rmaps b)) (recordsOf rmaps b)
   chosen-at = ea ∙ rw (ei, ej, en) (sym (chosen-index x (recordsOf rmaps b)))
 
   pub contained-at : contained x (recordsOf rmaps b) ≡ ltb at n

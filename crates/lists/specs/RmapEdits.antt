@@ -28,6 +28,10 @@ unfoldable pub indexWhere : {R : Type 0} → (R → Bool) → List R → ℕ
 indexWhere p [] = 0
 indexWhere p (r ∷ l) = cond (p r) 0 (suc (indexWhere p l))
 
+-- the same, record by record: what was found already, or the record i where it passes; n where nothing was found
+unfoldable pub noteOf : ℕ → ℕ → ℕ → Bool → ℕ
+noteOf found n i hit = cond (ltb found n) found (cond hit i n)
+
 -- the list with others in the place of the first record that passes the test
 unfoldable pub replace : (Rmap → Bool) → (Rmap → List Rmap) → List Rmap → List Rmap
 replace p f [] = []

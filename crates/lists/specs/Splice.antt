@@ -10,29 +10,16 @@ use Rattle.codec.specs.Question.{Outcome, done, refused, answer}
 use Rattle.codec.specs.Records.{recordsOf, bytesOf, rmaps}
 use Rattle.codec.specs.declared.rmap.Rmap.{Rmap}
 use Rattle.lists.specs.declared.splice.Edit.{Edit}
-use Rattle.lists.specs.declared.splice.Edit.the-variants.{Remove}
-use Rattle.lists.specs.declared.splice.Cut.{Cut}
-use Rattle.lists.specs.declared.splice.Cut.the-variants as cut
 use Rattle.lists.specs.declared.splice.Part.{Part}
 use Rattle.lists.specs.declared.splice.Splice.{Splice}
 use Rattle.lists.specs.declared.splice.Prepared.{Prepared}
 use Rattle.lists.specs.declared.splice.Prepared.the-variants as prepared
-use Rattle.lists.specs.RmapEdits.{cutAt}
 use Rattle.lists.specs.Edits.{edited, editQuestions}
 use Rattle.lists.specs.Answer.{editNumber, editValues}
 
 -- what an edit comes to but for the question of room
 unfoldable pub editBefore26 : Edit → List ℕ → Rmap → Outcome (List Rmap)
 editBefore26 e b x = answer (editQuestions e b x) (done (edited e x (recordsOf rmaps b)))
-
--- where a removal cuts, but for the question of room: the index of the record
-unfoldable pub cutBefore26 : List ℕ → Rmap → Outcome ℕ
-cutBefore26 b x = answer (editQuestions Remove b x) (done (cutAt x (recordsOf rmaps b)))
-
--- what the search for it comes to
-abbrev pub cutOutcome : Cut → Outcome ℕ
-cutOutcome (cut.Refused q) = refused (editNumber q) (editValues q)
-cutOutcome (cut.At i) = done i
 
 -- the records from a up to b
 abbrev pub between : {R : Type 0} → List R → ℕ → ℕ → List R

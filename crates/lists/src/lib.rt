@@ -14,7 +14,7 @@ mod pass;
 pub mod raises;
 pub mod refcounts;
 pub mod rmap_edits;
-mod search;
+pub mod search;
 pub mod splice;
 mod unchanged;
 pub mod write;

@@ -8,7 +8,6 @@ use crate::search::after;
 use crate::search::asked;
 use crate::search::continues;
 use crate::search::seat;
-use crate::splice::Cut;
 use crate::splice::Edit;
 use crate::splice::Part;
 use crate::splice::Prepared;
@@ -21,7 +20,6 @@ use codec::rmap::exempt;
 ghost use mathlib.Core.Path.{_≡_};
 ghost use mathlib.Core.Bool.{true, cond};
 ghost use Prim.Native.Nat.{_+_, _/_, _^_, _≤_, _<_};
-ghost use lib.Dec.{ltb};
 ghost use lib.ListN.{length};
 ghost use Rattle.codec.specs.Accepted.{endLimit};
 ghost use Rattle.codec.specs.Question.{done};
@@ -30,7 +28,7 @@ ghost use Rattle.codec.specs.Rmaps.{end, exempt, good, accepted};
 ghost use Rattle.lists.specs.declared.splice.Edit.the-variants.{Insert, InsertShared, Remove};
 ghost use Rattle.lists.specs.RmapEdits.{joined, later};
 ghost use Rattle.lists.specs.Answer.{EditIs, Inserts, InsertsShared, Removes};
-ghost use Rattle.lists.specs.Splice.{cutBefore26, cutOutcome, partsOf, partCount, PartsGood, preparedOutcome, PreparedGood, PreparedIs};
+ghost use Rattle.lists.specs.Splice.{partsOf, partCount, PartsGood, preparedOutcome, PreparedGood, PreparedIs};
 ghost use Rattle.lists.specs.inner.Searches.{Finds, TakeGood};
 ghost use Rattle.lists.specs.inner.Splicing.{editOutcome, joinAt, previous};
 
@@ -223,23 +221,15 @@ fn later(x: Rmap, w: Rmap) -> Rmap
     }
 }
 
-// The index of the record that a removal cuts: the first that lines up, else the first that contains the extent; the number of records where none does.
-fn cut_index(s: Scan, n: usize) -> usize
-    ensures { λ r. ⌜ r ≡ cond (ltb (s .aligned) n) (s .aligned) (s .containing) ⌝ }
-{
-    if s.aligned < n {
-        return s.aligned;
-    }
-    s.containing
-}
-
 // Question 24 of `remove`, and its splice.
 fn place_remove(old: &[u8], x: Rmap, s: Scan) -> Prepared
     requires { ⌜ TakeGood (now old) x × Finds Remove x (recordsOf rmaps (now old)) s ⌝ }
     ensures { λ p. ⌜ PreparedIs Remove (now (old .entry)) x p ⌝ }
 {
     let n = old.len() / RMAP_LEN;
-    let at = cut_index(s, n);
+    let i = s.aligned;
+    let j = s.containing;
+    let at = pick(i < n, i, j);
     if n <= at {
         return Prepared::Refused(EditRefusal::Missing);
     }
@@ -265,24 +255,6 @@ fn place_remove(old: &[u8], x: Rmap, s: Scan) -> Prepared
         to: place,
     };
     ready(old, at, first, second, place)
-}
-
-// Where a removal of x cuts: the questions 19, 20, 22 and 24, then the index of the record. Nothing is written.
-pub fn find_cut(old: &[u8], x: Rmap) -> Cut
-    ensures { λ r. ⌜ cutOutcome r ≡ cutBefore26 (now (old .entry)) x ⌝ }
-{
-    let found = asked(old, Edit::Remove, x);
-    match found {
-        Asked::Refused(q) => Cut::Refused(q),
-        Asked::Found(s) => {
-            let n = old.len() / RMAP_LEN;
-            let at = cut_index(s, n);
-            if n <= at {
-                return Cut::Refused(EditRefusal::Missing);
-            }
-            Cut::At(at)
-        }
-    }
 }
 
 // An edit prepared: the questions 19, 20, 22, and 23 or 24, then the new list. Nothing is written.

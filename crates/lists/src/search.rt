@@ -17,8 +17,8 @@ ghost use Prim.Native.Nat.{_≤_};
 ghost use lib.Dec.{ltb};
 ghost use Rattle.codec.specs.Records.{recordsOf, rmaps};
 ghost use Rattle.codec.specs.Rmaps.{flags, good, follows, accepted};
-ghost use Rattle.lists.specs.RmapEdits.{indexWhere, continues, overlaps, clash, contains, linesUp, alike};
-ghost use Rattle.lists.specs.inner.Searches.{touches, tests, seat, noteOf, Noted, ScanIs, AskedIs};
+ghost use Rattle.lists.specs.RmapEdits.{indexWhere, noteOf, continues, overlaps, clash, contains, linesUp, alike};
+ghost use Rattle.lists.specs.inner.Searches.{touches, tests, seat, Noted, ScanIs, AskedIs};
 
 // Have the records the same owner and flags?
 fn alike(r: Rmap, s: Rmap) -> bool
@@ -47,7 +47,7 @@ pub(crate) fn continues(r: Rmap, s: Rmap) -> bool
 }
 
 // Does the file offset of r line up with that of x?
-fn lines_up(x: Rmap, r: Rmap) -> bool
+pub fn lines_up(x: Rmap, r: Rmap) -> bool
     ensures { λ t. ⌜ t ≡ linesUp x r ⌝ }
 {
     if exempt(r) {
@@ -83,7 +83,7 @@ fn clash(x: Rmap, r: Rmap) -> bool
 }
 
 // Is r of the owner and flags of x, and does it contain x?
-fn contains(x: Rmap, r: Rmap) -> bool
+pub fn contains(x: Rmap, r: Rmap) -> bool
     ensures { λ t. ⌜ t ≡ contains x r ⌝ }
 {
     if !alike(r, x) {
@@ -136,7 +136,7 @@ fn hits(e: Edit, x: Rmap, r: Rmap) -> Hits
 }
 
 // What was found already, or the record i where it passes; n where nothing was found.
-fn note(found: usize, n: usize, i: usize, hit: bool) -> usize
+pub fn note(found: usize, n: usize, i: usize, hit: bool) -> usize
     ensures { λ r. ⌜ r ≡ noteOf found n i hit ⌝ }
 {
     if found < n {
@@ -178,7 +178,7 @@ fn noted(s: Scan, e: Edit, x: Rmap, r: Rmap, i: usize, n: usize) -> Scan
 }
 
 // Is r good, and may it stand behind prev?
-fn passes(prev: Rmap, r: Rmap) -> bool
+pub fn passes(prev: Rmap, r: Rmap) -> bool
     ensures { λ t. ⌜ t ≡ (good r && follows prev r) ⌝ }
 {
     if !good(r) {

@@ -25,12 +25,6 @@ pub struct Splice {
     pub size: usize,
 }
 
-// The index of the record that a removal cuts.
-pub enum Cut {
-    Refused(EditRefusal),
-    At(usize),
-}
-
 pub enum Prepared {
     Refused(EditRefusal),
     Ready(Splice),

@@ -1,4 +1,4 @@
--- The questions of an explanation out of those of its two halves: what the search for the record cut answers, and what the release of the counts.
+-- The questions of an explanation out of those of its two halves: what the search for another record answers, and what the release of the counts.
 -- Assumes nothing.
 use Prim.Native.Nat.{ℕ, _/_, _≤_, _<_}
 use native.Mathlib.Omega.{arith}
@@ -17,7 +17,7 @@ use Rattle.codec.specs.Refcounts as refcount
 use Rattle.codec.specs.declared.check.ListRefusal.the-variants.{Length, RmapOrder, ExtentOrder}
 use Rattle.codec.specs.declared.rmap.Rmap.{Rmap}
 use Rattle.codec.specs.declared.refcount.Refcount.{Refcount}
-use Rattle.codec.proofs.Meaning.{done-means}
+use Rattle.codec.proofs.Meaning.{AllHold, done-means}
 use Rattle.codec.proofs.RecordLists.{length-recordsOf}
 use Rattle.lists.specs.declared.EditRefusal.{EditRefusal}
 use Rattle.lists.specs.declared.EditRefusal.the-variants as why
@@ -29,11 +29,9 @@ use Rattle.lists.specs.Release.{clear}
 use Rattle.lists.specs.Edits.{mapQuestions, Freed, freed}
 use Rattle.lists.specs.Answer.{editNumber, releasedOutcome, lengthsOf}
 use Rattle.lists.specs.Steps.{measureOutcome}
-use Rattle.lists.specs.Splice.{cutBefore26}
 use Rattle.lists.proofs.EditRefusal.{the-type}
 use Rattle.lists.proofs.Cases.{split, tests, over-facts}
-use Rattle.lists.proofs.Asking.{answer-refused, answer-done}
-use Rattle.groups.proofs.Asking.{extent-good}
+use Rattle.groups.proofs.Asking.{answer-refused, answer-done, extent-good}
 use Rattle.reasons.specs.declared.explain.Why.{Why}
 use Rattle.reasons.specs.declared.explain.Why.the-variants.{Free, HeldInMap, HeldInCounts, Staging}
 use Rattle.reasons.specs.Why.{mapOver, sharedOver, stagedOver, indexBut, stands, stagedAt, heldOf, whyOf, decidingBytes, explainOutcome}
@@ -42,6 +40,7 @@ use Rattle.reasons.specs.declared.explain.Explained.{Explained}
 use Rattle.reasons.specs.declared.explain.Explained.the-variants.{Said, Refused}
 use Rattle.reasons.specs.Answer.{explainNumber, explainValues, explainedOutcome, numberSaid, Named, Explains}
 use Rattle.reasons.specs.Claims.{Covers}
+use Rattle.reasons.specs.inner.Finding.{probe, otherBefore26}
 use Rattle.reasons.specs.inner.Deciding.{stagedAnswer, heldAnswer, countsAnswer}
 use Rattle.reasons.proofs.Explaining.{staged-clear, every-why}
 
@@ -88,7 +87,7 @@ in-counts counts i h = lt-ltb i (length (recordsOf refcounts counts)) (omega (ar
 past-counts : (counts : List ℕ) (i : ℕ) → length counts / 12 ≤ i → stands i (recordsOf refcounts counts) ≡ false
 past-counts counts i h = le-ltb i (length (recordsOf refcounts counts)) (omega (arith, length-recordsOf refcounts counts))
 
-module _ (map counts : List ℕ) (cut b : ℕ) where
+module _ (map counts : List ℕ) (other b : ℕ) where
   abbrev m : List Rmap
   m = recordsOf rmaps map
 
@@ -96,18 +95,18 @@ module _ (map counts : List ℕ) (cut b : ℕ) where
   c = recordsOf refcounts counts
 
   module _ (i : ℕ) (e : i ≡ indexWhere (sharedOver b) c) where
-    pub free-now : length counts / 12 ≤ i → Free ≡ heldOf cut b m c
+    pub free-now : length counts / 12 ≤ i → Free ≡ heldOf other b m c
     unfolding heldOf
     free-now h = rw (← e, past-counts counts i h) refl
 
-    module _ (h : i < length counts / 12) (o : ℕ) (g : o ≡ indexBut (mapOver b) cut m) where
-      pub held-in-map : o < length map / 24 → HeldInMap o ≡ heldOf cut b m c
+    module _ (h : i < length counts / 12) where
+      pub held-in-map : other < length map / 24 → HeldInMap other ≡ heldOf other b m c
       unfolding heldOf
-      held-in-map k = rw (← e, in-counts counts i h, ← g, lt-ltb o (length m) (omega (arith, length-recordsOf rmaps map))) refl
+      held-in-map k = rw (← e, in-counts counts i h, lt-ltb other (length m) (omega (arith, length-recordsOf rmaps map))) refl
 
-      pub held-in-counts : length map / 24 ≤ o → HeldInCounts i ≡ heldOf cut b m c
+      pub held-in-counts : length map / 24 ≤ other → HeldInCounts i ≡ heldOf other b m c
       unfolding heldOf
-      held-in-counts k = rw (← e, in-counts counts i h, ← g, le-ltb o (length m) (omega (arith, length-recordsOf rmaps map))) refl
+      held-in-counts k = rw (← e, in-counts counts i h, le-ltb other (length m) (omega (arith, length-recordsOf rmaps map))) refl
 
 module _ (counts : List ℕ) (x : Rmap) (b : ℕ) where
   module _ (i : ℕ) (e : i ≡ indexWhere (stagedOver b) (recordsOf refcounts counts)) where
@@ -164,32 +163,43 @@ module _ (map counts : List ℕ) (x : Rmap) (b : ℕ) where
   abbrev explainedWhy : Why
   explainedWhy = whyOf x b (recordsOf rmaps map) (recordsOf refcounts counts)
 
-  pub map-refused : (q : EditRefusal) → refused (editNumber q) none ≡ cutBefore26 map x → refused (editNumber q) none ≡ explainOutcome map counts x b
-  unfolding cutBefore26 explainOutcome
-  map-refused q h = sym (answer-refused mapAsks restAsks (cutAt x (recordsOf rmaps map)) (done explainedWhy) (editNumber q) none (sym h))
+  -- the record that is looked for, and the one that is found where the block is one of x
+  abbrev otherAt : ℕ → ℕ
+  otherAt k = indexBut (mapOver k) (cutAt x (recordsOf rmaps map)) (recordsOf rmaps map)
 
-  module _ (i : ℕ) (h : done i ≡ cutBefore26 map x) where
-    asked : answer mapAsks (done (cutAt x (recordsOf rmaps map))) ≡ done i
-    unfolding cutBefore26
+  pub map-refused : (q : EditRefusal) → refused (editNumber q) none ≡ otherBefore26 map x b → refused (editNumber q) none ≡ explainOutcome map counts x b
+  unfolding otherBefore26 explainOutcome
+  map-refused q h = sym (answer-refused mapAsks restAsks (otherAt (probe x b)) (done explainedWhy) (editNumber q) none (sym h))
+
+  module _ (i : ℕ) (h : done i ≡ otherBefore26 map x b) where
+    asked : answer mapAsks (done (otherAt (probe x b))) ≡ done i
+    unfolding otherBefore26
     asked = sym h
 
-    cut-is : cutAt x (recordsOf rmaps map) ≡ i
-    cut-is = done-means mapAsks (cutAt x (recordsOf rmaps map)) i asked .1
+    held-is : AllHold mapAsks × (otherAt (probe x b) ≡ i)
+    held-is = done-means mapAsks (otherAt (probe x b)) i asked
+
+    other-is : o ≡ true → i ≡ otherAt b
+    other-is e = sym (held-is .1) ∙ rw e refl
 
     abbrev held : Why
-    held = heldOf i b (recordsOf rmaps map) (recordsOf refcounts counts)
+    held = heldOf (otherAt b) b (recordsOf rmaps map) (recordsOf refcounts counts)
 
     abbrev staged : Why
     staged = Staging (indexWhere (stagedOver b) (recordsOf refcounts counts))
 
     after-map : explainOutcome map counts x b ≡ answer restAsks (done (cond s staged held))
     unfolding explainOutcome whyOf
-    after-map = rw (← cut-is) (answer-done mapAsks restAsks (cutAt x (recordsOf rmaps map)) i (done explainedWhy) asked)
+    after-map = answer-done mapAsks restAsks (otherAt (probe x b)) i (done explainedWhy) asked
+
+    -- where the block is none of x nothing else is asked
+    held-so : heldAnswer x i b (recordsOf rmaps map) (recordsOf refcounts counts) ≡ answer (ask 31 o ∷ []) (done held)
+    held-so = split o (λ e. rw (e, other-is e) refl) (λ e. rw e refl)
 
     -- 22 of the counts holds
     measure-is : measureOutcome counts (x .startblock) (x .blockcount) ≡ answer (ask 19 a ∷ ask 21 d ∷ ask 25 k ∷ []) (done (freed (recordsOf refcounts counts) (x .startblock) (x .blockcount)))
     unfolding measureOutcome
-    measure-is = rw (extent-good x (done-means mapAsks (cutAt x (recordsOf rmaps map)) i asked .0 .1 .1 .0)) refl
+    measure-is = rw (extent-good x (held-is .0 .1 .1 .0)) refl
 
     pub counts-refused : (q : EditRefusal) → releasedOutcome (released.Refused q) ≡ lengthsOf (measureOutcome counts (x .startblock) (x .blockcount))
         → countsAnswer x b (recordsOf refcounts counts) q ≡ explainOutcome map counts x b
@@ -217,7 +227,7 @@ module _ (map counts : List ℕ) (x : Rmap) (b : ℕ) where
     pub counts-done : (n : Lengths) → releasedOutcome (released.Done n) ≡ lengthsOf (measureOutcome counts (x .startblock) (x .blockcount))
         → heldAnswer x i b (recordsOf rmaps map) (recordsOf refcounts counts) ≡ explainOutcome map counts x b
     counts-done n e =
-        none-refuses lengths (freed (recordsOf refcounts counts) (x .startblock) (x .blockcount)) staged held a d k s o n unstaged (e ∙ ap lengthsOf measure-is) ∙ sym after-map
+        held-so ∙ none-refuses lengths (freed (recordsOf refcounts counts) (x .startblock) (x .blockcount)) staged held a d k s o n unstaged (e ∙ ap lengthsOf measure-is) ∙ sym after-map
       where
         unstaged : k ≡ true → o ≡ true → s ≡ false
         unstaged u v =

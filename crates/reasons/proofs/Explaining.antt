@@ -34,6 +34,7 @@ use Rattle.reasons.specs.declared.explain.Why.the-variants.{Free, HeldIn
 use Rattle.reasons.specs.Why.{mapOver, sharedOver, stagedOver, indexBut, stands, heldOf, whyOf, decidingBytes, whyQuestions, explainOutcome}
 use Rattle.reasons.specs.Claims.{Offers, Answers, Covers, HandsBack, EveryWhy}
 use Rattle.reasons.proofs.Places.{but-passes}
+use Rattle.reasons.proofs.Tests.{and-false}
 
 -- ---- shared counts
 
@@ -78,10 +79,6 @@ staged-clear s e (r ∷ c) b h k l =
     rw (u, lt-ltb (refcount.block r) e (omega arith), lt-ltb s (refcount.end r) (omega arith)) refl)
     (λ t. let l : suc (indexWhere (stagedOver b) c) < suc (length c) = rw t at l in
     rw (staged-clear s e c b h k (omega arith)) (and-false (not (refcount.staging r && (ltb (refcount.block r) e && ltb s (refcount.end r))))))
-  where
-    and-false : (t : Bool) → (t && false) ≡ false
-    and-false true = refl
-    and-false false = refl
 
 -- ---- the claim
 

@@ -45,19 +45,19 @@ stands i l = ltb i (length l)
 
 -- ---- what decides
 
--- where a shared count lies over block b it is still held: by the first record over it other than the one cut, the `cut`-th, by its place in the list, or
--- else by that count. Where none does it is free now.
-unfoldable pub heldOf : (cut b : ℕ) → List Rmap → List Refcount → Why
-heldOf cut b m c =
+-- where a shared count lies over block b it is still held: by the record `other`, or by that count where there is no such record. Where none does it is free
+-- now.
+unfoldable pub heldOf : (other b : ℕ) → List Rmap → List Refcount → Why
+heldOf other b m c =
     let shared : ℕ = indexWhere (sharedOver b) c in
-    let other : ℕ = indexBut (mapOver b) cut m in
     cond (stands shared c) (cond (stands other m) (HeldInMap other) (HeldInCounts shared)) Free
 
--- a block under a staging record gets that record
+-- a block under a staging record gets that record, any other the first record over it other than the one cut, by its place in the list
 unfoldable pub whyOf : Rmap → ℕ → List Rmap → List Refcount → Why
 whyOf x b m c =
     let staged : ℕ = indexWhere (stagedOver b) c in
-    cond (stands staged c) (Staging staged) (heldOf (cutAt x m) b m c)
+    let other : ℕ = indexBut (mapOver b) (cutAt x m) m in
+    cond (stands staged c) (Staging staged) (heldOf other b m c)
 
 -- the bytes handed back: a part of the one list or of the other; a free block gets an empty part
 abbrev pub decidingBytes : List ℕ → List ℕ → Why → List ℕ

@@ -1,7 +1,8 @@
 // Whether a block of a letting go is free now, still held, or staging, and the bytes of the record that decides.
 use crate::find::find_count;
-use crate::find::find_other;
 use crate::find::over;
+use crate::scan::Other;
+use crate::scan::find_other;
 use codec::refcount::REFCOUNT_LEN;
 use codec::refusal::Told;
 use codec::rmap::RMAP_LEN;
@@ -9,8 +10,6 @@ use codec::rmap::Rmap;
 use lists::EditRefusal;
 use lists::Released;
 use lists::refcounts::measure;
-use lists::rmap_edits::find_cut;
-use lists::splice::Cut;
 ghost use mathlib.Core.Path.{_≡_};
 ghost use Prim.Native.Nat.{_/_};
 ghost use lib.ListN.{length};
@@ -57,15 +56,14 @@ pub enum Explained {
     Refused(ExplainRefusal),
 }
 
-// What holds a block that no staging record lies over, where the record `cut` is cut.
-fn holder(map: &[u8], counts: &[u8], cut: usize, block: u32) -> Why
-    ensures { λ w. ⌜ w ≡ heldOf cut block (recordsOf rmaps (now (map .entry))) (recordsOf refcounts (now (counts .entry))) ⌝ }
+// What holds a block that no staging record lies over, `other` being the first record over it other than the one cut.
+fn holder(map: &[u8], counts: &[u8], other: usize, block: u32) -> Why
+    ensures { λ w. ⌜ w ≡ heldOf other block (recordsOf rmaps (now (map .entry))) (recordsOf refcounts (now (counts .entry))) ⌝ }
 {
     let shared = find_count(counts, false, block);
     if counts.len() / REFCOUNT_LEN <= shared {
         return Why::Free;
     }
-    let other = find_other(map, cut, block);
     if other < map.len() / RMAP_LEN {
         return Why::HeldInMap(other);
     }
@@ -73,13 +71,13 @@ fn holder(map: &[u8], counts: &[u8], cut: usize, block: u32) -> Why
 }
 
 // The extent is clear of staging records: 31 is left.
-fn explain_clear(map: &[u8], counts: &[u8], x: Rmap, cut: usize, block: u32) -> Explained
-    ensures { λ r. ⌜ explainedOutcome r ≡ heldAnswer x cut block (recordsOf rmaps (now (map .entry))) (recordsOf refcounts (now (counts .entry))) ⌝ }
+fn explain_clear(map: &[u8], counts: &[u8], x: Rmap, other: usize, block: u32) -> Explained
+    ensures { λ r. ⌜ explainedOutcome r ≡ heldAnswer x other block (recordsOf rmaps (now (map .entry))) (recordsOf refcounts (now (counts .entry))) ⌝ }
 {
     if !over(x.startblock, x.blockcount, block) {
         return Explained::Refused(ExplainRefusal::NotInExtent);
     }
-    Explained::Said(holder(map, counts, cut, block))
+    Explained::Said(holder(map, counts, other, block))
 }
 
 // The extent meets a staging record: 25 if none lies over the block, then 31.
@@ -111,14 +109,14 @@ fn explain_refused(counts: &[u8], x: Rmap, block: u32, refusal: EditRefusal) -> 
 pub fn decide(map: &[u8], counts: &[u8], x: Rmap, block: u32) -> Explained
     ensures { λ r. ⌜ explainedOutcome r ≡ explainOutcome (now (map .entry)) (now (counts .entry)) x block ⌝ }
 {
-    let found = find_cut(map, x);
+    let found = find_other(map, x, block);
     match found {
-        Cut::Refused(refusal) => Explained::Refused(ExplainRefusal::Edit(refusal)),
-        Cut::At(cut) => {
+        Other::Refused(refusal) => Explained::Refused(ExplainRefusal::Edit(refusal)),
+        Other::At(other) => {
             let released = measure(counts, x.startblock, x.blockcount);
             match released {
                 Released::Refused(refusal) => explain_refused(counts, x, block, refusal),
-                Released::Done(_) => explain_clear(map, counts, x, cut, block),
+                Released::Done(_) => explain_clear(map, counts, x, other, block),
             }
         }
     }

@@ -1,10 +1,10 @@
 -- What an edit of a reverse map searches for: which records pass each search, and what one pass over the list finds.
 -- Assumes nothing.
-use Prim.Native.Nat.{ℕ, suc, _%_}
+use Prim.Native.Nat.{ℕ, _%_}
 use mathlib.Core.Path.{_≡_}
-use mathlib.Core.Bool.{Bool, true, false, cond, _&&_}
-use mathlib.Core.List.{List, [], _∷_, _++_}
-use lib.Dec.{ltb, leb}
+use mathlib.Core.Bool.{Bool, true, false, _&&_}
+use mathlib.Core.List.{List, [], _++_}
+use lib.Dec.{leb}
 use lib.ListN.{length}
 use Rattle.codec.specs.Question.{Outcome, refused, Question, answer}
 use Rattle.codec.specs.Records.{recordsOf, rmaps}
@@ -16,7 +16,7 @@ use Rattle.lists.specs.declared.findings.Hits.{Hits}
 use Rattle.lists.specs.declared.findings.Scan.{Scan}
 use Rattle.lists.specs.declared.findings.Asked.{Asked}
 use Rattle.lists.specs.declared.findings.Asked.the-variants as asked
-use Rattle.lists.specs.RmapEdits.{indexWhere, overlaps, clash, continues, contains, linesUp}
+use Rattle.lists.specs.RmapEdits.{indexWhere, noteOf, overlaps, clash, continues, contains, linesUp}
 use Rattle.lists.specs.Edits.{mapQuestions}
 use Rattle.lists.specs.Answer.{editNumber, editValues}
 
@@ -33,10 +33,6 @@ tests Remove x r = record { conflict = false; before = false; after = false; ali
 -- have x and r a block in common, or do they lie side by side? No other record passes a search.
 unfoldable pub touches : Rmap → Rmap → Bool
 touches x r = leb (x .startblock) (end r) && leb (r .startblock) (end x)
-
--- what was found already, or the record i where it passes; n where nothing was found
-unfoldable pub noteOf : ℕ → ℕ → ℕ → Bool → ℕ
-noteOf found n i hit = cond (ltb found n) found (cond hit i n)
 
 -- k is what was found in s, and in the record i, which passes h
 pub record Noted (h : Hits) (i n : ℕ) (s k : Scan) : Type 0 where

@@ -1,9 +1,8 @@
 -- What the steps of an explanation promise one another.
 -- Assumes nothing.
 use Prim.Native.Nat.{ℕ}
-use mathlib.Core.Bool.{Bool, not, cond, _&&_}
+use mathlib.Core.Bool.{Bool, cond}
 use mathlib.Core.List.{List, [], _∷_}
-use lib.Dec.{eqb}
 use Rattle.codec.specs.Question.{none, Outcome, done, refused, ask, answer}
 use Rattle.codec.specs.declared.rmap.Rmap.{Rmap}
 use Rattle.codec.specs.declared.refcount.Refcount.{Refcount}
@@ -14,15 +13,11 @@ use Rattle.lists.specs.RmapEdits.{indexWhere}
 use Rattle.lists.specs.Answer.{editNumber}
 use Rattle.reasons.specs.declared.explain.Why.{Why}
 use Rattle.reasons.specs.declared.explain.Why.the-variants.{Staging}
-use Rattle.reasons.specs.Why.{mapOver, sharedOver, stagedOver, stands, heldOf}
+use Rattle.reasons.specs.Why.{sharedOver, stagedOver, stands, heldOf}
 
 -- a staging record over block b, or a shared count
 abbrev pub countOver : Bool → ℕ → Refcount → Bool
 countOver staging b r = cond staging (stagedOver b r) (sharedOver b r)
-
--- a record over block b, the i-th, that is not the one cut
-abbrev pub otherOver : (b cut i : ℕ) → Rmap → Bool
-otherOver b cut i r = not (eqb i cut) && mapOver b r
 
 -- 25 and 31 where the extent is not clear of staging records
 abbrev pub stagedAnswer : Rmap → ℕ → List Refcount → Outcome Why
@@ -31,8 +26,8 @@ stagedAnswer x b c =
     answer (ask 25 (stands staged c) ∷ ask 31 (over (x .startblock) (x .blockcount) b) ∷ []) (done (Staging staged))
 
 -- 31 where it is clear
-abbrev pub heldAnswer : Rmap → (cut b : ℕ) → List Rmap → List Refcount → Outcome Why
-heldAnswer x cut b m c = answer (ask 31 (over (x .startblock) (x .blockcount) b) ∷ []) (done (heldOf cut b m c))
+abbrev pub heldAnswer : Rmap → (other b : ℕ) → List Rmap → List Refcount → Outcome Why
+heldAnswer x other b m c = answer (ask 31 (over (x .startblock) (x .blockcount) b) ∷ []) (done (heldOf other b m c))
 
 -- the release of the counts is refused: every refusal but 25 is one of the explanation
 abbrev pub countsAnswer : Rmap → ℕ → List Refcount → EditRefusal → Outcome Why

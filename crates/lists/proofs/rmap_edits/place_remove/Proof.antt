@@ -16,8 +16,8 @@ use borrow.Author.Needs.{needs}
 use Rattle.lists.proofs.rmap_edits.place_remove.Statement.{statement}
 use Rattle.lists.proofs.rmap_edits.place_remove.Tie as tie
 
-cut-index-requires : tie.Need-cut-index-requires
-cut-index-requires c κs = search needs
+pick-requires : tie.Need-pick-requires
+pick-requires c κs = search needs
 
 returns : tie.Need-returns
 unfolding tests
@@ -25,7 +25,7 @@ returns c =
     let b = now (c .before .before .before .args .old) in
     let g = c .before .before .before .pre .0 in
     let f = c .before .before .before .pre .1 in
-    refused-is Remove b _ g why.Missing (contained-at b (c .before .before .before .args .x) g _ (sym (length-recordsOf rmaps b)) _ _ _ (f .aligned) (f .containing) (c .before .cut-index .ensures) ∙ le-ltb _ _ (c .if1 .taken)) refl refl
+    refused-is Remove b _ g why.Missing (contained-at b (c .before .before .before .args .x) g _ (sym (length-recordsOf rmaps b)) _ _ _ (f .aligned) (f .containing) (c .before .pick .ensures) ∙ le-ltb _ _ (c .if1 .taken)) refl refl
 
 mul-decode : tie.Need-mul-decode
 mul-decode c = search needs
@@ -39,23 +39,23 @@ later-requires c κs =
     let b = now (c .before .before .before .before .args .old) in
     let g = c .before .before .before .before .pre .0 in
     let f = c .before .before .before .before .pre .1 in
-    let h = cut-ends b (c .before .before .before .before .args .x) g _ (sym (length-recordsOf rmaps b)) _ _ _ (f .aligned) (f .containing) (c .before .before .cut-index .ensures) _ (c .before .if1 .left) (read-at b _ _ (c .before .if1 .left) (c .decode .ensures)) in
+    let h = cut-ends b (c .before .before .before .before .args .x) g _ (sym (length-recordsOf rmaps b)) _ _ _ (f .aligned) (f .containing) (c .before .before .pick .ensures) _ (c .before .if1 .left) (read-at b _ _ (c .before .if1 .left) (c .decode .ensures)) in
     (good-at b _ _ (g .ordered) (c .before .if1 .left) (c .decode .ensures), h .0, h .1)
 
 seat-requires : tie.Need-seat-requires
 seat-requires c κs = search needs
 
-sub-t15 : tie.Need-sub-t15
+sub-t17 : tie.Need-sub-t17
 unfolding tests
-sub-t15 c =
+sub-t17 c =
     let b = now (c .before .before .before .before .before .before .before .before .args .old) in
     let g = c .before .before .before .before .before .before .before .before .pre .0 in
     let f = c .before .before .before .before .before .before .before .before .pre .1 in
-    let h = cut-ends b (c .before .before .before .before .before .before .before .before .args .x) g _ (sym (length-recordsOf rmaps b)) _ _ _ (f .aligned) (f .containing) (c .before .before .before .before .before .before .cut-index .ensures) _ (c .before .before .before .before .before .if1 .left) (read-at b _ _ (c .before .before .before .before .before .if1 .left) (c .before .before .before .before .decode .ensures)) in
+    let h = cut-ends b (c .before .before .before .before .before .before .before .before .args .x) g _ (sym (length-recordsOf rmaps b)) _ _ _ (f .aligned) (f .containing) (c .before .before .before .before .before .before .pick .ensures) _ (c .before .before .before .before .before .if1 .left) (read-at b _ _ (c .before .before .before .before .before .if1 .left) (c .before .before .before .before .decode .ensures)) in
     omega arith
 
-add-t12 : tie.Need-add-t12
-add-t12 c = search needs
+add-t14 : tie.Need-add-t14
+add-t14 c = search needs
 
 end-requires : tie.Need-end-requires
 end-requires c κs = search needs
@@ -69,7 +69,7 @@ ready-requires c κs =
     let b = now (c .before .before .before .before .before .before .before .before .before .before .before .before .args .old) in
     let g = c .before .before .before .before .before .before .before .before .before .before .before .before .pre .0 in
     let f = c .before .before .before .before .before .before .before .before .before .before .before .before .pre .1 in
-    remove-good b (c .before .before .before .before .before .before .before .before .before .before .before .before .args .x) g _ (sym (length-recordsOf rmaps b)) _ _ _ (f .aligned) (f .containing) (c .before .before .before .before .before .before .before .before .before .before .cut-index .ensures) _ (c .before .before .before .before .before .before .before .before .before .if1 .left) (read-at b _ _ (c .before .before .before .before .before .before .before .before .before .if1 .left) (c .before .before .before .before .before .before .before .before .decode .ensures)) _ _ _ _ _ (c .before .before .before .before .before .before .seat .ensures) (c .before .before .before .before .before .before .before .later .ensures) refl (c .before .end .ensures) (c .end2 .ensures)
+    remove-good b (c .before .before .before .before .before .before .before .before .before .before .before .before .args .x) g _ (sym (length-recordsOf rmaps b)) _ _ _ (f .aligned) (f .containing) (c .before .before .before .before .before .before .before .before .before .before .pick .ensures) _ (c .before .before .before .before .before .before .before .before .before .if1 .left) (read-at b _ _ (c .before .before .before .before .before .before .before .before .before .if1 .left) (c .before .before .before .before .before .before .before .before .decode .ensures)) _ _ _ _ _ (c .before .before .before .before .before .before .seat .ensures) (c .before .before .before .before .before .before .before .later .ensures) refl (c .before .end .ensures) (c .end2 .ensures)
 
 returns-2 : tie.Need-returns-2
 unfolding tests
@@ -77,20 +77,20 @@ returns-2 c =
     let b = now (c .before .before .before .before .before .before .before .before .before .before .before .before .before .args .old) in
     let g = c .before .before .before .before .before .before .before .before .before .before .before .before .before .pre .0 in
     let f = c .before .before .before .before .before .before .before .before .before .before .before .before .before .pre .1 in
-    prepared-is Remove b _ g _ _ (contained-at b (c .before .before .before .before .before .before .before .before .before .before .before .before .before .args .x) g _ (sym (length-recordsOf rmaps b)) _ _ _ (f .aligned) (f .containing) (c .before .before .before .before .before .before .before .before .before .before .before .cut-index .ensures) ∙ lt-ltb _ _ (c .before .before .before .before .before .before .before .before .before .before .if1 .left)) (remove-parts b (c .before .before .before .before .before .before .before .before .before .before .before .before .before .args .x) g _ (sym (length-recordsOf rmaps b)) _ _ _ (f .aligned) (f .containing) (c .before .before .before .before .before .before .before .before .before .before .before .cut-index .ensures) _ (c .before .before .before .before .before .before .before .before .before .before .if1 .left) (read-at b _ _ (c .before .before .before .before .before .before .before .before .before .before .if1 .left) (c .before .before .before .before .before .before .before .before .before .decode .ensures)) _ _ _ _ _ (c .before .before .before .before .before .before .before .seat .ensures) (c .before .before .before .before .before .before .before .before .later .ensures) refl (c .before .before .end .ensures) (c .before .end2 .ensures)) (c .ready .ensures)
+    prepared-is Remove b _ g _ _ (contained-at b (c .before .before .before .before .before .before .before .before .before .before .before .before .before .args .x) g _ (sym (length-recordsOf rmaps b)) _ _ _ (f .aligned) (f .containing) (c .before .before .before .before .before .before .before .before .before .before .before .pick .ensures) ∙ lt-ltb _ _ (c .before .before .before .before .before .before .before .before .before .before .if1 .left)) (remove-parts b (c .before .before .before .before .before .before .before .before .before .before .before .before .before .args .x) g _ (sym (length-recordsOf rmaps b)) _ _ _ (f .aligned) (f .containing) (c .before .before .before .before .before .before .before .before .before .before .before .pick .ensures) _ (c .before .before .before .before .before .before .before .before .before .before .if1 .left) (read-at b _ _ (c .before .before .before .before .before .before .before .before .before .before .if1 .left) (c .before .before .before .before .before .before .before .before .before .decode .ensures)) _ _ _ _ _ (c .before .before .before .before .before .before .before .seat .ensures) (c .before .before .before .before .before .before .before .before .later .ensures) refl (c .before .before .end .ensures) (c .before .end2 .ensures)) (c .ready .ensures)
 
 pub place-remove-spec : {M : Type 1} → statement M
 place-remove-spec =
     tie.close
     (tie.spec
-    cut-index-requires
+    pick-requires
     returns
     mul-decode
     decode-requires
     later-requires
     seat-requires
-    sub-t15
-    add-t12
+    sub-t17
+    add-t14
     end-requires
     end-requires-2
     ready-requires

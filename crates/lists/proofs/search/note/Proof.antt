@@ -2,7 +2,7 @@
 -- Assumes nothing.
 use mathlib.Core.Path.{refl}
 use borrow.Author.Tests.{lt-ltb, le-ltb}
-use Rattle.lists.specs.inner.Searches.{noteOf}
+use Rattle.lists.specs.RmapEdits.{noteOf}
 use Rattle.lists.proofs.search.note.Statement.{statement}
 use Rattle.lists.proofs.search.note.Tie as tie
 

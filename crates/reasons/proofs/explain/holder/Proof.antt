@@ -12,27 +12,17 @@ find-count-requires c κs = search needs
 returns : tie.Need-returns
 returns c =
     let a = c .before .before .before .before .args in
-    free-now (now (a .map)) (now (a .counts)) (a .cut) (a .block) _ (c .before .find-count .ensures) (c .if1 .taken)
-
-find-other-requires : tie.Need-find-other-requires
-find-other-requires c κs = search needs
+    free-now (now (a .map)) (now (a .counts)) (a .other) (a .block) _ (c .before .find-count .ensures) (c .if1 .taken)
 
 returns-2 : tie.Need-returns-2
 returns-2 c =
-    let a = c .before .before .before .before .before .before .args in
-    held-in-map (now (a .map)) (now (a .counts)) (a .cut) (a .block) _ (c .before .before .before .find-count .ensures) (c .before .before .if1 .left) _ (c .before .find-other .ensures) (c .if2 .taken)
+    let a = c .before .before .before .before .before .args in
+    held-in-map (now (a .map)) (now (a .counts)) (a .other) (a .block) _ (c .before .before .find-count .ensures) (c .before .if1 .left) (c .if2 .taken)
 
 returns-3 : tie.Need-returns-3
 returns-3 c =
-    let a = c .before .before .before .before .before .before .args in
-    held-in-counts (now (a .map)) (now (a .counts)) (a .cut) (a .block) _ (c .before .before .before .find-count .ensures) (c .before .before .if1 .left) _ (c .before .find-other .ensures) (c .if2 .left)
+    let a = c .before .before .before .before .before .args in
+    held-in-counts (now (a .map)) (now (a .counts)) (a .other) (a .block) _ (c .before .before .find-count .ensures) (c .before .if1 .left) (c .if2 .left)
 
 pub holder-spec : {M : Type 1} → statement M
-holder-spec =
-    tie.close
-    (tie.spec
-    find-count-requires
-    returns
-    find-other-requires
-    returns-2
-    returns-3)
+holder-spec = tie.close (tie.spec find-count-requires returns returns-2 returns-3)
