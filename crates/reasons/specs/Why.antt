@@ -45,14 +45,15 @@ stands i l = ltb i (length l)
 
 -- ---- what decides
 
--- where a shared count lies over block b it is still held: by the record `other`, or by that count where there is no such record. Where none does it is free
--- now.
+-- a block that is not staging is still held exactly if a shared count lies over it: by the record `other`, or by that count where there is no such record.
+-- Else it is free now.
 unfoldable pub heldOf : (other b : ℕ) → List Rmap → List Refcount → Why
 heldOf other b m c =
     let shared : ℕ = indexWhere (sharedOver b) c in
     cond (stands shared c) (cond (stands other m) (HeldInMap other) (HeldInCounts shared)) Free
 
--- a block under a staging record gets that record, any other the first record over it other than the one cut, by its place in the list
+-- a block under a staging record gets that record; any other goes by the first record of the reverse map over it other than the one cut, by its place in the
+-- list
 unfoldable pub whyOf : Rmap → ℕ → List Rmap → List Refcount → Why
 whyOf x b m c =
     let staged : ℕ = indexWhere (stagedOver b) c in
