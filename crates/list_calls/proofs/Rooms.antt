@@ -47,24 +47,24 @@ never-26 =
 
 -- ---- an instance: all room of the free extents is taken
 
-abbrev mapping : ℕ → ℕ → ℕ → Rmap
+abbrev pub mapping : ℕ → ℕ → ℕ → Rmap
 mapping start count owner = record { startblock = start; blockcount = count; owner = owner; offset = 0 }
 
 -- 0/6 held by 7, of which 8 holds 2/2
-abbrev map : List ℕ
+abbrev pub map : List ℕ
 map = bytesOf rmaps (mapping 0 6 7 ∷ mapping 2 2 8 ∷ [])
 
-abbrev counts : List ℕ
+abbrev pub counts : List ℕ
 counts = bytesOf refcounts (record { startblock = 2; blockcount = 2; refcount = 2 } ∷ [])
 
-abbrev kept : List ℕ
+abbrev pub kept : List ℕ
 kept = bytesOf rmaps (mapping 2 2 8 ∷ [])
 
-abbrev free : List ℕ
+abbrev pub free : List ℕ
 free = bytesOf freeExtents (record { startblock = 0; blockcount = 2 } ∷ record { startblock = 4; blockcount = 2 } ∷ [])
 
 -- 0/6 of owner 7 let go, with room for three records, three counts and two free extents
-said-so : GroupEditSays (letGoOutcome map counts (mapping 0 6 7) 72 36 16) 0 (24 ∷ 0 ∷ 16 ∷ 0 ∷ []) (replicate 72 0) (kept ++ replicate 48 0) (replicate 36 0) (replicate 36 0) (replicate 16 0) free
+pub said-so : GroupEditSays (letGoOutcome map counts (mapping 0 6 7) 72 36 16) 0 (24 ∷ 0 ∷ 16 ∷ 0 ∷ []) (replicate 72 0) (kept ++ replicate 48 0) (replicate 36 0) (replicate 36 0) (replicate 16 0) free
 unfolding letGoOutcome written withBytes bytes.beOf bytes.beBytes records.fieldsOf records.fieldBytes records.firstRecords records.recordsOf records.bytesOf accepted.whole accepted.inOrder rmap.reserved rmap.mapping rmap.exempt rmap.good rmap.keyOffset rmap.before rmap.follows refcount.staging refcount.good refcount.follows blocks.over blocks.within blocks.grow blocks.runs edits.first edits.isSome edits.replace edits.place edits.contains edits.linesUp edits.chosen edits.front edits.later edits.placeLater edits.cutOut lower.owners lower.clear lower.piece lower.share lower.fewer lower.clamp lower.lowered lower.lowerAll lower.sameKind lower.continues lower.joinFrom lower.joinAll
 said-so = record { answer = record { number = refl; figures = refl }; map-is = refl; counts-are = refl; free-are = refl }
 

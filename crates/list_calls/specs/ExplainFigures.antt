@@ -7,13 +7,13 @@ use mathlib.Core.List.{List, [], _∷_}
 use lib.Dec.{eqb}
 use lib.ListN.{getD}
 use Rattle.codec.specs.Bytes.{bytesAt}
-use Rattle.codec.specs.Question.{done}
 use Rattle.codec.specs.Records.{rmaps, refcounts}
 use Rattle.codec.specs.declared.rmap.Rmap.{Rmap}
 use Rattle.interface.specs.Interface.{Says}
 use Rattle.reasons.specs.declared.explain.Why.{Why}
 use Rattle.reasons.specs.declared.explain.Why.the-variants.{Free, HeldInMap, HeldInCounts, Staging}
-use Rattle.reasons.specs.Why.{decidingBytes, explainOutcome}
+use Rattle.reasons.specs.Why.{explainOutcome}
+use Rattle.reasons.specs.Answer.{partSaid}
 
 -- 0 free now, 1 still held, 2 staging; the list that holds the deciding record, 0 where there is none, 1 the reverse map, 2 the counts; the byte of that list
 -- at which the record begins, and its length
@@ -27,9 +27,8 @@ explainFigures (Staging i) = 2 ∷ 2 ∷ i * refcounts .size ∷ refcounts .size
 abbrev pub bytesNamed : (map counts said : List ℕ) → List ℕ
 bytesNamed map counts said = bytesAt (cond (eqb (getD said 1 0) 1) map counts) (getD said 2 0) (getD said 3 0)
 
--- a call of kf_explain that kept its contract and is done answers 0, and its figures name the deciding record's bytes
+-- where kf_explain kept its contract and answered 0 its figures name the bytes that `explain` hands back
 abbrev pub EveryNamed : Type 0
 EveryNamed =
-    (map counts : List ℕ) (x : Rmap) (b r : ℕ) (said : List ℕ) (w : Why) → explainOutcome map counts x b ≡ done w
-    → Says explainFigures (explainOutcome map counts x b) r said
-    → (r ≡ 0) × (bytesNamed map counts said ≡ decidingBytes map counts w)
+    (map counts : List ℕ) (x : Rmap) (b : ℕ) (said : List ℕ) → Says explainFigures (explainOutcome map counts x b) 0 said
+    → bytesNamed map counts said ≡ partSaid map counts (explainOutcome map counts x b)

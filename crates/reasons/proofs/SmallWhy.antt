@@ -38,13 +38,13 @@ abbrev staged : ℕ → ℕ → Refcount
 staged s c = counted (2 ^ 31 + s) c 1
 
 -- 0/4 of owner 7, of which owner 9 holds 1/2 too; all of it is let go
-abbrev pub pair : List ℕ
+abbrev pair : List ℕ
 pair = map (record-of 0 4 7 0 ∷ record-of 1 2 9 0 ∷ [])
 
-abbrev pub pair-counts : List ℕ
+abbrev pair-counts : List ℕ
 pair-counts = counts (counted 1 2 2 ∷ [])
 
-abbrev pub gone : Rmap
+abbrev gone : Rmap
 gone = record-of 0 4 7 0
 
 pub record SmallWhy : Type 0 where
