@@ -1,17 +1,16 @@
 -- `EveryNamed`: the figures of an explanation name the deciding record's bytes. `EverySaidSo`: what it says is what the letting go does. Each with an instance.
 -- Assumes nothing.
-use Prim.Native.Nat.{ℕ, _≤_}
-use native.Mathlib.Nat.{zero-add}
+use Prim.Native.Nat.{ℕ}
 use native.Mathlib.Omega.{arith}
 use mathlib.Core.Path.{_≡_, refl, sym, ap, _∙_}
 use mathlib.Core.Logic.{_⊎_, inl, inr}
 use mathlib.Core.Bool.{Bool, true, false, not}
 use mathlib.Core.List.{List, [], _∷_, _++_}
-use lib.Dec.{leb, eqb}
-use lib.ListN.{length, getD, take, replicate}
+use lib.Dec.{eqb}
+use lib.ListN.{length, getD, replicate}
 use borrow.Author.Tests.{eqb-false}
 use Rattle.codec.specs.Bytes as bytes
-use Rattle.codec.specs.Bytes.{bytesAt, withBytes}
+use Rattle.codec.specs.Bytes.{bytesAt}
 use Rattle.codec.specs.Question.{Outcome, done, Question, ask, answer}
 use Rattle.codec.specs.Records as records
 use Rattle.codec.specs.Accepted as accepted
@@ -20,7 +19,6 @@ use Rattle.codec.specs.Refcounts as refcount
 use Rattle.codec.specs.Records.{recordsOf, bytesOf, rmaps, refcounts, freeExtents}
 use Rattle.codec.specs.declared.rmap.Rmap.{Rmap}
 use Rattle.codec.proofs.Meaning.{AllHold, done-means}
-use Rattle.codec.proofs.Parts.{take-withBytes}
 use Rattle.codec.proofs.RecordLists.{recordsOf-bytesOf}
 use Rattle.codec.proofs.RecordKinds.{freeExtents-lawful}
 use Rattle.lists.specs.Extent as blocks
@@ -29,9 +27,10 @@ use Rattle.lists.specs.RmapEdits as edits
 use Rattle.lists.specs.RmapEdits.{indexWhere}
 use Rattle.lists.specs.Release as lower
 use Rattle.lists.specs.Edits.{written}
-use Rattle.lists.proofs.Cases.{split, tests, conj, not-false}
+use Rattle.lists.proofs.Cases.{split, conj, not-false}
 use Rattle.lists.proofs.RmapOrder.{good-facts}
 use Rattle.lists.proofs.Fits.{storable-unshared}
+use Rattle.lists.proofs.Laws.{written-front}
 use Rattle.groups.specs.Joint.{NewLists, fitAll}
 use Rattle.groups.specs.LetGo.{letting, letGoQuestions, letGoOutcome}
 use Rattle.groups.specs.Answer.{sizesOf, freeOf}
@@ -93,35 +92,19 @@ module _ (map counts : List ℕ) (x : Rmap) (b r : ℕ) (said kept kept′ lower
     abbrev left : NewLists
     left = letting x (recordsOf rmaps map) (recordsOf refcounts counts)
 
-    abbrev freed : List ℕ
-    freed = bytesOf freeExtents (left .free)
-
-    module _ (g : NewLists) (e : o ≡ done g) where
-      held : AllHold (letGoQuestions map counts x ++ (ask 26 (fitAll left (length kept) (length lowered) (length free)) ∷ [])) × (left ≡ g)
-      unfolding letGoOutcome
-      held = done-means (letGoQuestions map counts x ++ (ask 26 (fitAll left (length kept) (length lowered) (length free)) ∷ [])) left g e
-
-      leaves : o ≡ done left
-      leaves = e ∙ ap done (sym (held .1))
-
-      fit : length freed ≤ length free
-      fit =
-          let t : fitAll left (length kept) (length lowered) (length free) ≡ true = held .0 .1 .1 .1 .1 .1 .1 .1 .0 in
-          let u : leb (length freed) (length free) ≡ true = search conj in
-          omega tests
-
-      front : take (length freed) (withBytes free 0 freed) ≡ freed
-      front = ap (λ (n : ℕ). take n (withBytes free 0 freed)) (sym (zero-add (length freed))) ∙ take-withBytes free 0 freed (rw zero-add fit)
-
-      -- the free extents are read back from where they were written
-      read-back : freeWritten said free′ ≡ g .free
-      unfolding written
-      read-back =
-          let n : getD said 2 0 ≡ length freed = ap (λ (l : List ℕ). getD l 2 0) (p .answer .figures ∙ ap (λ (q : Outcome NewLists). figuresOf groupFigures (sizesOf q)) leaves) in
-          let f : free′ ≡ withBytes free 0 freed = p .free-are ∙ ap (λ (q : Outcome NewLists). written freeExtents free (freeOf q)) leaves in
-          rw (n, f, front) (recordsOf-bytesOf freeExtents freeExtents-lawful (left .free)
-          (storable-unshared (recordsOf refcounts counts) (x .startblock) (x .blockcount) (good-facts x (held .0 .1 .1 .0) .1))
-          ∙ ap (λ (h : NewLists). h .free) (held .1))
+    -- the free extents are read back from where they were written
+    read-back : (g : NewLists) → o ≡ done g → freeWritten said free′ ≡ g .free
+    unfolding letGoOutcome
+    read-back g e =
+        let asks : List Question = letGoQuestions map counts x ++ (ask 26 (fitAll left (length kept) (length lowered) (length free)) ∷ []) in
+        let held : AllHold asks × (left ≡ g) = done-means asks left g e in
+        let n : getD said 2 0 ≡ length (bytesOf freeExtents (g .free)) =
+        ap (λ (l : List ℕ). getD l 2 0) (p .answer .figures ∙ ap (λ (q : Outcome NewLists). figuresOf groupFigures (sizesOf q)) e) in
+        let f : free′ ≡ written freeExtents free (done (g .free)) = p .free-are ∙ ap (λ (q : Outcome NewLists). written freeExtents free (freeOf q)) e in
+        let same : left .free ≡ g .free = ap (λ (h : NewLists). h .free) (held .1) in
+        rw (n, f, written-front freeExtents free (g .free))
+        (rw (← same) (recordsOf-bytesOf freeExtents freeExtents-lawful (left .free)
+        (storable-unshared (recordsOf refcounts counts) (x .startblock) (x .blockcount) (good-facts x (held .0 .1 .1 .0) .1))))
 
     answers-so : (t : Bool) → Offers t b o → (r ≡ 26) ⊎ ((r ≡ 0) × (lies (freeWritten said free′) b ≡ t))
     answers-so t (inl e) = inl (p .answer .number ∙ ap (λ (q : Outcome NewLists). numberOf (sizesOf q)) e)
@@ -160,3 +143,13 @@ keeps-two : (_≡_ {A = ℕ} 0 26) ⊎ ((_≡_ {A = ℕ} 0 0) × (lies (freeWrit
 keeps-two =
     every-said-so rooms.map rooms.counts (rooms.mapping 0 6 7) 2 (1 ∷ 1 ∷ 24 ∷ 24 ∷ []) says-two 0 (24 ∷ 0 ∷ 16 ∷ 0 ∷ []) (replicate 72 0) (rooms.kept ++ replicate 48 0) (replicate 36 0)
     (replicate 36 0) (replicate 16 0) rooms.free rooms.said-so .still-held refl
+
+-- and block 0 is free now, and is among them
+explains-zero : explainOutcome rooms.map rooms.counts (rooms.mapping 0 6 7) 0 ≡ done Free
+unfolding explainOutcome whyOf heldOf indexWhere indexBut bytes.beOf bytes.beBytes records.fieldsOf records.fieldBytes records.firstRecords records.recordsOf records.bytesOf accepted.whole accepted.inOrder rmap.reserved rmap.mapping rmap.exempt rmap.good rmap.keyOffset rmap.before rmap.follows refcount.staging refcount.good refcount.follows blocks.over edits.first edits.isSome edits.contains edits.linesUp edits.chosen lower.clear
+explains-zero = refl
+
+frees-zero : (_≡_ {A = ℕ} 0 26) ⊎ ((_≡_ {A = ℕ} 0 0) × (lies (freeWritten (24 ∷ 0 ∷ 16 ∷ 0 ∷ []) rooms.free) 0 ≡ true))
+frees-zero =
+    every-said-so rooms.map rooms.counts (rooms.mapping 0 6 7) 0 (0 ∷ 0 ∷ 0 ∷ 0 ∷ []) (record { number = rw explains-zero refl; figures = rw explains-zero refl }) 0 (24 ∷ 0 ∷ 16 ∷ 0 ∷ [])
+    (replicate 72 0) (rooms.kept ++ replicate 48 0) (replicate 36 0) (replicate 36 0) (replicate 16 0) rooms.free rooms.said-so .free-now refl

@@ -30,6 +30,14 @@ pub and-true : (a b : Bool) → a ≡ true → b ≡ true → (a && b) ≡ true
 and-true true b e f = f
 and-true false b e f = e
 
+pub and-on : (a : Bool) → (a && true) ≡ a
+and-on true = refl
+and-on false = refl
+
+pub and-off : (a : Bool) → (a && false) ≡ false
+and-off true = refl
+and-off false = refl
+
 pub or-l : (a b : Bool) → (a || b) ≡ false → a ≡ false
 or-l true b e = e
 or-l false b e = refl

@@ -29,7 +29,7 @@ use Rattle.lists.specs.Release.{stop, clear, joinAll, share}
 use Rattle.lists.specs.Raise.{full, ownersFit, Raisable}
 use Rattle.lists.specs.Steps.{Writable}
 use Rattle.lists.specs.inner.Passes.{fitIf, passOutcome, Passable, putIf, gapOf, pending, joinOn, fresh, changed, changedFrom, changeAll, begun, Lies, Fits, Room, Cut, Pushed, StepAsks, Stepped, PassIs}
-use Rattle.lists.proofs.Cases.{tests, and-true}
+use Rattle.lists.proofs.Cases.{tests, and-true, and-on}
 use Rattle.lists.proofs.Places.{goodPlace, acceptedFrom, good-place, follows-place}
 use Rattle.lists.proofs.Counts.{OfKind, shared, staged, Good, from-facts, accepted-facts}
 use Rattle.lists.proofs.Runs.{gaps, unshared-gaps}
@@ -211,18 +211,14 @@ module _ (up write list : Bool) (all : List Refcount) (s e : ℕ) (new₀ free�
     unfolding inOrder
     last-accepted = last .order
 
-    and-last : (t : Bool) → (t && true) ≡ t
-    and-last true = refl
-    and-last false = refl
-
     pub last-clear : (t : Bool) → w .clear ≡ t → clear s e all ≡ t
     unfolding clear
-    last-clear t h = last .clear ∙ rw h (and-last t)
+    last-clear t h = last .clear ∙ rw h (and-on t)
 
     -- 28 fails where there are too many owners
     pub last-fit : fitIf up s e all ≡ not (up && not (w .fit))
     unfolding ownersFit
-    last-fit = go up (w .fit) (last .fit ∙ and-last (w .fit))
+    last-fit = go up (w .fit) (last .fit ∙ and-on (w .fit))
       where
         go : (u t : Bool) → ownersFit s e all ≡ t → fitIf u s e all ≡ not (u && not t)
         go false t h = refl

@@ -12,11 +12,7 @@ use lib.Seq.{drop-cons}
 use borrow.Author.Tests.{lt-ltb, le-ltb, le-leb, lt-leb, ltb-true, ltb-false, leb-true, leb-false}
 use Rattle.lookup.specs.Lookup.{ascending, anyBetween}
 use Rattle.lookup.specs.inner.Numbers.{firstAt, isBelow}
-use Rattle.lists.proofs.Cases.{split, and-l, and-r}
-
-and-off : (a : Bool) → (a && false) ≡ false
-and-off true = refl
-and-off false = refl
+use Rattle.lists.proofs.Cases.{split, and-l, and-r, and-off}
 
 or-on : (a : Bool) → (a || true) ≡ true
 or-on true = refl

@@ -24,7 +24,7 @@ use Rattle.codec.proofs.RecordLists.{inside, length-recordsOf, getD-recordsOf}
 use Rattle.lists.specs.Extent.{over, within, lies}
 use Rattle.lists.specs.RmapEdits.{indexWhere, cutAt}
 use Rattle.lists.specs.Release.{owners, clear, unshared}
-use Rattle.lists.proofs.Cases.{split, tests, conj, over-facts, within-over, within-not}
+use Rattle.lists.proofs.Cases.{split, tests, conj, over-facts, within-over, within-not, and-off}
 use Rattle.lists.proofs.Longest.{lies-runs}
 use Rattle.lists.proofs.Index.{index-hits}
 use Rattle.groups.specs.Joint.{fitAll}
@@ -34,7 +34,6 @@ use Rattle.reasons.specs.declared.explain.Why.the-variants.{Free, HeldIn
 use Rattle.reasons.specs.Why.{mapOver, sharedOver, stagedOver, indexBut, stands, heldOf, whyOf, decidingBytes, whyQuestions, explainOutcome}
 use Rattle.reasons.specs.Claims.{Offers, Answers, Covers, HandsBack, EveryWhy}
 use Rattle.reasons.proofs.Places.{but-passes}
-use Rattle.reasons.proofs.Tests.{and-false}
 
 -- ---- shared counts
 
@@ -78,7 +77,7 @@ staged-clear s e (r ∷ c) b h k l =
     let o = over-facts (refcount.block r) (r .blockcount) b v in
     rw (u, lt-ltb (refcount.block r) e (omega arith), lt-ltb s (refcount.end r) (omega arith)) refl)
     (λ t. let l : suc (indexWhere (stagedOver b) c) < suc (length c) = rw t at l in
-    rw (staged-clear s e c b h k (omega arith)) (and-false (not (refcount.staging r && (ltb (refcount.block r) e && ltb s (refcount.end r))))))
+    rw (staged-clear s e c b h k (omega arith)) (and-off (not (refcount.staging r && (ltb (refcount.block r) e && ltb s (refcount.end r))))))
 
 -- ---- the claim
 

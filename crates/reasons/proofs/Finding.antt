@@ -17,7 +17,7 @@ use Rattle.codec.specs.declared.rmap.Rmap.{Rmap}
 use Rattle.codec.proofs.RecordLists.{length-recordsOf}
 use Rattle.lists.specs.Extent.{over}
 use Rattle.lists.specs.RmapEdits.{indexWhere, noteOf, contains, linesUp, contained, cutAt}
-use Rattle.lists.proofs.Cases.{split, tests, over-facts}
+use Rattle.lists.proofs.Cases.{split, tests, over-facts, and-off}
 use Rattle.lists.proofs.Found.{contains-ends}
 use Rattle.lists.proofs.RmapOrder.{good-facts}
 use Rattle.lists.proofs.Index.{index-le, index-first, index-same, note-none, seen, seen-none, seen-le, seen-next, seen-all}
@@ -26,7 +26,7 @@ use Rattle.lists.proofs.Scanning.{read-at}
 use Rattle.reasons.specs.declared.scan.Found.{Found}
 use Rattle.reasons.specs.Why.{mapOver, indexBut}
 use Rattle.reasons.specs.inner.Finding.{overContains, overAligned, secondOver, Within, Noted, Finds, FoundIs, probe, otherBefore26}
-use Rattle.reasons.proofs.Tests.{and-false, over-before}
+use Rattle.reasons.proofs.Tests.{over-before}
 use Rattle.reasons.proofs.Places.{but-passes}
 
 -- ---- the first record that passes a test, one left out
@@ -189,10 +189,10 @@ module _ (x : Rmap) (k : ℕ) (h : over (x .startblock) (x .blockcount) k ≡ tr
       sym (over-before (r .startblock) (r .blockcount) k (omega arith)) ∙ le-leb (r .startblock) k (omega arith)
 
   containing-same : (r : Rmap) → overContains x k r ≡ contains x r
-  containing-same r = split (contains x r) (λ e. rw (e, contains-over r e) refl) (λ e. rw e (and-false (mapOver k r)))
+  containing-same r = split (contains x r) (λ e. rw (e, contains-over r e) refl) (λ e. rw e (and-off (mapOver k r)))
 
   aligned-same : (r : Rmap) → overAligned x k r ≡ (contains x r && linesUp x r)
-  aligned-same r = split (contains x r) (λ e. rw (e, contains-over r e) refl) (λ e. rw e (and-false (mapOver k r)))
+  aligned-same r = split (contains x r) (λ e. rw (e, contains-over r e) refl) (λ e. rw e (and-off (mapOver k r)))
 
   cut-is : (l : List Rmap) (s : Found) (n at : ℕ) → n ≡ length l → Finds x k l s → at ≡ cond (ltb (s .aligned) n) (s .aligned) (s .containing) → at ≡ cutAt x l
   cut-is l s n at en f e =

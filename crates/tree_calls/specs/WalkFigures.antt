@@ -1,4 +1,4 @@
--- What a walk, the link check and the textbook walk say and leave. The third figure is the records' bytes where it is done, its visits where it is refused.
+-- What a walk, the link check and the textbook walk say and leave. The third figure of each is the bytes of its records where it is done, and its visits where it is refused.
 -- Assumes nothing.
 use Prim.Native.Nat.{ℕ}
 use mathlib.Core.Path.{_≡_}
