@@ -17,7 +17,7 @@ use codec::endian::{be16, be32, be64, le32};
 use codec::refusal::Told;
 
 // A field of the header that failed, with what was expected and what was found.
-#[derive(Drop)]
+#[derive(Clone, Copy)]
 pub enum Field {
     Magic { expected: u64, found: u64 },
     Crc { expected: u64, found: u64 },
@@ -29,7 +29,7 @@ pub enum Field {
 }
 
 // Why a block is refused. The number of each case is `refusal_number` of specs/Refusal.antt; docs/QUESTIONS.md has its question.
-#[derive(Drop)]
+#[derive(Clone, Copy)]
 pub enum BlockRefusal {
     // the geometry is none: 1
     BadGeometry,
@@ -76,7 +76,7 @@ impl BlockRefusal {
 }
 
 // A header that has been read and checked.
-#[derive(Drop)]
+#[derive(Clone, Copy)]
 pub struct Header {
     pub level: u16,
     pub numrecs: u16,
@@ -89,7 +89,7 @@ pub struct Header {
     pub maxrecs: usize,
 }
 
-#[derive(Drop)]
+#[derive(Clone, Copy)]
 pub enum Checked {
     Good(Header),
     Refused(BlockRefusal),

@@ -3,7 +3,7 @@
 ghost use Rattle.std.specs.Prelude.{◌≡◌, ◌*◌, ◌<◌, ◌^◌};
 ghost use Rattle.blocks.specs.Geometry.{is_version, is_block_size, geometry_ok, linear_of, address_of};
 
-#[derive(Drop)]
+#[derive(Clone, Copy)]
 pub struct Geometry {
     pub version: u16,
     pub blocksize: u32,
@@ -18,15 +18,15 @@ pub struct Geometry {
 }
 
 // A block number in the group.
-#[derive(Drop)]
+#[derive(Clone, Copy)]
 pub struct AgBlock(pub u32);
 
 // A linear block number of the volume.
-#[derive(Drop)]
+#[derive(Clone, Copy)]
 pub(crate) struct LinearBlock(u64);
 
 // An address in units of 512 bytes.
-#[derive(Drop)]
+#[derive(Clone, Copy)]
 pub(crate) struct DiskAddress(pub(crate) u64);
 
 // The block number that stands for no block: a sibling that is not there.

@@ -16,7 +16,7 @@ const REFCOUNT_KEY_LEN: usize = 4;
 // A pointer of a node: a block number of the group.
 pub const PTR_LEN: usize = 4;
 
-#[derive(Drop)]
+#[derive(Clone, Copy)]
 pub enum TreeKind {
     Rmap,
     Refcount,

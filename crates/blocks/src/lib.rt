@@ -1,5 +1,7 @@
 // One block of a group tree: the geometry, where a block lies, the kinds of tree by their lengths, the check of a block and the header of
 // a fresh one.
+#![tactic(auto)]
+
 pub mod check;
 pub mod geometry;
 pub mod kind;

@@ -1,5 +1,7 @@
 // Blocks that pass the check, and blocks refused by each of questions 1 to 10 and 30: each is stamped, then damaged. A line has the answer's number
 // and, where there are two numbers, what was expected and what was found. `stdout` was worked out apart from this code.
+#![tactic(auto)]
+
 ghost use Rattle.std.specs.Prelude.{◌≤◌, length};
 ghost use Rattle.blocks.specs.Offsets.{v5_header_len};
 

@@ -16,14 +16,14 @@ use walks::refusal::WalkRefusal;
 use walks::visit::{Count, Verdict, visit};
 
 // How far a walk may go: its visits, and the blocks that its list takes.
-#[derive(Drop)]
+#[derive(Clone, Copy)]
 pub(crate) struct Limits {
     pub(crate) visits: usize,
     pub(crate) blocks: usize,
 }
 
 // The walk of a block, and of all below it: what became of it, and the counts after it. The visits of one that is refused are the blocks that passed 13.
-#[derive(Drop)]
+#[derive(Clone, Copy)]
 pub(crate) struct Subtree {
     pub(crate) count: Count,
     pub(crate) verdict: Verdict,

@@ -1,6 +1,8 @@
 // The textbook walk, run: trees read, and refused by each question that it asks; and a tree of nine levels whose nodes are full. Each walk is made over a
 // stack of 18 places too, on the same image with as much lent: a line ends with whether that came to the same, answer and lent memory. `stdout` was worked
 // out apart from this code.
+#![tactic(auto)]
+
 mod full;
 
 use blocks::geometry::{AgBlock, Geometry};
@@ -37,7 +39,7 @@ fn either(first: bool, a: &[u8], b: &[u8]) {
 // ---- two walks of one image
 
 // What a walk said: 0 and its counts, or its number, its values and the visits.
-#[derive(Drop)]
+#[derive(Clone, Copy)]
 struct Said {
     number: u32,
     visits: u64,
@@ -187,7 +189,7 @@ fn show_list(walked: Walked, blocks: &[u32]) {
 }
 
 // What is walked: a tree of a kind, from a root over so many levels.
-#[derive(Drop)]
+#[derive(Clone, Copy)]
 pub(crate) struct Asked {
     pub(crate) g: Geometry,
     pub(crate) kind: TreeKind,
@@ -285,7 +287,7 @@ pub(crate) fn walk_both(
 }
 
 // The places and bytes that a walk is lent, out of 122, 122 and 2,400.
-#[derive(Drop)]
+#[derive(Clone, Copy)]
 struct Lengths {
     scratch: usize,
     blocks: usize,

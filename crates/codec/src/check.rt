@@ -8,7 +8,7 @@ use crate::refusal::Told;
 // The largest end of an extent, one more than the largest block number of a group.
 pub const END_LIMIT: u64 = 0x8000_0000;
 
-#[derive(Drop)]
+#[derive(Clone, Copy)]
 pub enum ListRefusal {
     // the bytes are not whole records
     Length,
@@ -18,7 +18,7 @@ pub enum ListRefusal {
     ExtentOrder,
 }
 
-#[derive(Drop)]
+#[derive(Clone, Copy)]
 pub enum ListChecked {
     // how many records there are
     Accepted(usize),

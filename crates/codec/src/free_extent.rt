@@ -5,7 +5,7 @@ ghost use Rattle.codec.specs.Records.{free_extents};
 
 use crate::endian::{be32, put_be32};
 
-#[derive(Drop)]
+#[derive(Clone, Copy)]
 pub struct FreeExtent {
     pub startblock: u32,
     pub blockcount: u32,

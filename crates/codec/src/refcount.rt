@@ -8,7 +8,7 @@ ghost use Rattle.codec.specs.ListRefusal.{list_outcome};
 use crate::check::{END_LIMIT, ListChecked, ListRefusal};
 use crate::endian::{be32, put_be32};
 
-#[derive(Drop)]
+#[derive(Clone, Copy)]
 pub struct Refcount {
     // As stored: bit 31 marks a staging extent of a copy on write, and the rest is a block of the group.
     pub startblock: u32,

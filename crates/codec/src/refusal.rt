@@ -3,14 +3,14 @@ ghost use Rattle.codec.specs.Question.{none, two};
 ghost use Rattle.codec.specs.Told.{Tells};
 
 // The values of a question that failed: none, or the number expected and the one found.
-#[derive(Drop)]
+#[derive(Clone, Copy)]
 pub enum Values {
     None,
     Two { expected: u64, found: u64 },
 }
 
 // The number of docs/QUESTIONS.md and the values of a refusal.
-#[derive(Drop)]
+#[derive(Clone, Copy)]
 pub struct Told {
     pub number: u32,
     pub values: Values,

@@ -8,7 +8,7 @@ ghost use Rattle.codec.specs.ListRefusal.{list_outcome};
 use crate::check::{END_LIMIT, ListChecked, ListRefusal};
 use crate::endian::{be32, be64, put_be32, put_be64};
 
-#[derive(Drop)]
+#[derive(Clone, Copy)]
 pub struct Rmap {
     // In the group, as in every record of a group's tree.
     pub startblock: u32,

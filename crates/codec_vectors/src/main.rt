@@ -1,5 +1,7 @@
 // RFC 3720's vectors of CRC32C (B.4) and short inputs, by words and by single bytes, a block's check put into its own field and left out again, a
 // record of each kind written among other bytes and read back, and lists that questions 19 to 21 accept and refuse.
+#![tactic(auto)]
+
 use codec::check::ListChecked;
 use codec::free_extent::FreeExtent;
 use codec::refcount::Refcount;

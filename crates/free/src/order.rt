@@ -8,7 +8,7 @@ use codec::check::{END_LIMIT, ListChecked, ListRefusal};
 use codec::free_extent::{EXTENT_LEN, FreeExtent, decode};
 
 // The orders of the two trees.
-#[derive(Drop)]
+#[derive(Clone, Copy)]
 pub enum Order {
     // by start
     ByBlock,

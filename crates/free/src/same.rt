@@ -13,14 +13,14 @@ use codec::check::{ListChecked, ListRefusal};
 use codec::free_extent::{EXTENT_LEN, FreeExtent, decode};
 
 // Whether two lists hold the same extents, or why one of them is refused.
-#[derive(Drop)]
+#[derive(Clone, Copy)]
 pub enum Same {
     Said(bool),
     Refused(ListRefusal),
 }
 
 // Extents of a list by block, of which those before `low` start before a block, and those from `high` on do not.
-#[derive(Drop)]
+#[derive(Clone, Copy)]
 struct Span {
     low: usize,
     high: usize,

@@ -7,7 +7,7 @@ use free::same::{Same, same_extents};
 use show::lines::show_told;
 
 // The first bytes of a list of two extents.
-#[derive(Drop)]
+#[derive(Clone, Copy)]
 struct TwoExtents {
     first: FreeExtent,
     second: FreeExtent,

@@ -1,6 +1,8 @@
 // Free space over blocks of 512 bytes, run: lists in either order, and whether two hold the same extents (lists.rt); plans; a tree by block on version 4
 // and one by size on version 5, each built, stored at scattered numbers and walked back, whole and damaged; builds and walks that are refused. A walk's
 // line says whether the levels are linked, and ends with what became of the lists and scratches. `stdout` was worked out apart from this code.
+#![tactic(auto)]
+
 ghost use Rattle.std.specs.Prelude.{◌<◌};
 
 mod lists;

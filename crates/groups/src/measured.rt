@@ -6,13 +6,13 @@ use lists::EditRefusal;
 use lists::splice::Splice;
 
 // The splice of the new reverse map, and the bytes of all that is to be written.
-#[derive(Drop)]
+#[derive(Clone, Copy)]
 pub(crate) struct Measure {
     pub splice: Splice,
     pub sizes: Sizes,
 }
 
-#[derive(Drop)]
+#[derive(Clone, Copy)]
 pub(crate) enum Measured {
     Refused(EditRefusal),
     Ready(Measure),

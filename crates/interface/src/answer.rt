@@ -6,7 +6,7 @@ ghost use Rattle.interface.specs.Interface.{value_figures};
 use codec::refusal::{Told, Values};
 
 // The number and the figures of an answer.
-#[derive(Drop)]
+#[derive(Clone, Copy)]
 pub struct Answer {
     pub number: u32,
     pub figures: [u64; 4],

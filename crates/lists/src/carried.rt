@@ -5,7 +5,7 @@ ghost use Rattle.lists.specs.Inner.Passes.{raises, writes_counts, writes_free};
 use codec::refcount::Refcount;
 
 // What becomes of the owners of an extent.
-#[derive(Drop)]
+#[derive(Clone, Copy)]
 pub(crate) enum Change {
     // one fewer, as in a release
     Lower,
@@ -25,7 +25,7 @@ impl Change {
 }
 
 // What a pass does.
-#[derive(Drop)]
+#[derive(Clone, Copy)]
 pub(crate) enum Pass {
     // decides and adds up the lengths, and writes nothing
     Measure,
@@ -58,7 +58,7 @@ impl Pass {
 }
 
 // The record that waits for its successor, none if its count is 0; `at` is the place behind the finished ones.
-#[derive(Drop)]
+#[derive(Clone, Copy)]
 pub(crate) struct Joiner {
     pub start: u32,
     pub count: u32,
@@ -67,7 +67,7 @@ pub(crate) struct Joiner {
 }
 
 // What is carried from record to record.
-#[derive(Drop)]
+#[derive(Clone, Copy)]
 pub(crate) struct Carried {
     // the record before
     pub prev: Refcount,

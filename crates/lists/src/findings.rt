@@ -3,7 +3,7 @@ use crate::EditRefusal;
 use codec::rmap::Rmap;
 
 // Which searches of an edit a record passes: `tests` of specs/Inner/Searches.antt.
-#[derive(Drop)]
+#[derive(Clone, Copy)]
 pub(crate) struct Hits {
     // one that the extent may not be taken over
     pub conflict: bool,
@@ -18,7 +18,7 @@ pub(crate) struct Hits {
 }
 
 // One pass over a list: whether it is in order, and the first record that passes each search, or the number of records.
-#[derive(Drop)]
+#[derive(Clone, Copy)]
 pub(crate) struct Scan {
     pub ordered: bool,
     pub conflict: usize,
@@ -29,14 +29,14 @@ pub(crate) struct Scan {
 }
 
 // The questions on the list and on the extent: the first that fails, or what was found.
-#[derive(Drop)]
+#[derive(Clone, Copy)]
 pub(crate) enum Asked {
     Refused(EditRefusal),
     Found(Scan),
 }
 
 // A record, and whether it was joined to one of the list.
-#[derive(Drop)]
+#[derive(Clone, Copy)]
 pub(crate) struct Joined {
     pub rmap: Rmap,
     pub joins: bool,

@@ -1,4 +1,6 @@
 // Edits of the two lists of a group: extents taken and given up in the reverse map, and counts lowered and raised.
+#![tactic(auto)]
+
 ghost use Rattle.codec.specs.Told.{Tells};
 ghost use Rattle.lists.specs.Answer.{edit_number, edit_values};
 
@@ -21,7 +23,7 @@ mod unchanged;
 pub mod write;
 
 // Why an edit is refused. The number of each case (docs/QUESTIONS.md) is `edit_number` of specs/Answer.antt.
-#[derive(Drop)]
+#[derive(Clone, Copy)]
 pub enum EditRefusal {
     // the list is not one: 19, 20 or 21
     List(ListRefusal),
@@ -59,7 +61,7 @@ impl EditRefusal {
     }
 }
 
-#[derive(Drop)]
+#[derive(Clone, Copy)]
 pub enum Edited {
     // the bytes of the new list
     Done(usize),
@@ -67,13 +69,13 @@ pub enum Edited {
 }
 
 // The bytes of the new counts, and of the free extents.
-#[derive(Drop)]
+#[derive(Clone, Copy)]
 pub struct Lengths {
     pub counts: usize,
     pub free: usize,
 }
 
-#[derive(Drop)]
+#[derive(Clone, Copy)]
 pub enum Released {
     Done(Lengths),
     Refused(EditRefusal),

@@ -2,7 +2,7 @@
 use crate::EditRefusal;
 use codec::rmap::Rmap;
 
-#[derive(Drop)]
+#[derive(Clone, Copy)]
 pub enum Edit {
     Insert,
     InsertShared,
@@ -10,7 +10,7 @@ pub enum Edit {
 }
 
 // A part of a new list: a record if there is one, then the records of the old list from `from` up to `to`.
-#[derive(Drop)]
+#[derive(Clone, Copy)]
 pub struct Part {
     pub some: bool,
     pub rmap: Rmap,
@@ -19,7 +19,7 @@ pub struct Part {
 }
 
 // A new list: the first records of the old one, two parts, and the records of the old one from `rest` on. `size` is its bytes.
-#[derive(Drop)]
+#[derive(Clone, Copy)]
 pub struct Splice {
     pub front: usize,
     pub first: Part,
@@ -28,7 +28,7 @@ pub struct Splice {
     pub size: usize,
 }
 
-#[derive(Drop)]
+#[derive(Clone, Copy)]
 pub enum Prepared {
     Refused(EditRefusal),
     Ready(Splice),

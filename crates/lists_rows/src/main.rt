@@ -1,4 +1,6 @@
 // Edits of both lists, run: the answer, then each output in hexadecimal. eeeeeeee was not written.
+#![tactic(auto)]
+
 use codec::rmap::Rmap;
 use lists::rmap_edits::{insert, insert_shared, remove};
 use lists::splice::Edit;

@@ -1,4 +1,6 @@
 // Many blocks looked up together: how many records of a reverse map lie over each, in one descent from the root.
+#![tactic(auto)]
+
 mod children;
 mod descend;
 pub mod lookup;

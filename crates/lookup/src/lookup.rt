@@ -18,7 +18,7 @@ use walks::first::{First, ask_first, limit_of};
 use walks::memory::{zero32, zero64};
 
 // What a lookup comes to. `visits` counts the blocks that passed 13.
-#[derive(Drop)]
+#[derive(Clone, Copy)]
 pub enum LookedUp {
     Found {
         visits: usize,

@@ -6,7 +6,7 @@ use codec::refusal::Told;
 use walks::refusal::WalkRefusal;
 
 // The number of each case (docs/QUESTIONS.md) is `lookup_number` of specs/Answer.antt.
-#[derive(Drop)]
+#[derive(Clone, Copy)]
 pub enum LookupRefusal {
     // the walk's own: 1, 11 to 14, 3 to 10 and 30
     Walk(WalkRefusal),

@@ -1,5 +1,7 @@
 // Inputs of the plan program, and what it prints for each: the input in quotes, with \n, \r and \t for a newline, a carriage return and a tab,
 // then the answer. `stdout` was worked out apart from this code.
+#![tactic(auto)]
+
 use plan_text::text::respond;
 use show::places::all8;
 

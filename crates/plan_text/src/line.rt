@@ -8,7 +8,7 @@ ghost use Rattle.plan_text.specs.Inner.Readings.{asked, number, named};
 use blocks::kind::TreeKind;
 
 // A plan that is asked for.
-#[derive(Drop)]
+#[derive(Clone, Copy)]
 pub(crate) struct Request {
     pub kind: TreeKind,
     pub blocksize: u64,
@@ -16,19 +16,19 @@ pub(crate) struct Request {
 }
 
 // What the input is: such a line, or any other input.
-#[derive(Drop)]
+#[derive(Clone, Copy)]
 pub(crate) enum Line {
     Asked(Request),
     Other,
 }
 
-#[derive(Drop)]
+#[derive(Clone, Copy)]
 enum Number {
     Value(u64),
     NotOne,
 }
 
-#[derive(Drop)]
+#[derive(Clone, Copy)]
 enum Name {
     Tree(TreeKind),
     Unknown,

@@ -15,7 +15,7 @@ use lists::refcounts::measure;
 use lists::{EditRefusal, Released};
 
 // What decides: nothing, or a record of either list, by its index.
-#[derive(Drop)]
+#[derive(Clone, Copy)]
 pub enum Why {
     // free now
     Free,
@@ -28,7 +28,7 @@ pub enum Why {
 }
 
 // Why an explanation is refused. The number of each case (docs/QUESTIONS.md) is `explain_number` of specs/Answer.antt.
-#[derive(Drop)]
+#[derive(Clone, Copy)]
 pub enum ExplainRefusal {
     // the letting go's own: 19 to 22, 24 and 25
     Edit(EditRefusal),
@@ -48,7 +48,7 @@ impl ExplainRefusal {
     }
 }
 
-#[derive(Drop)]
+#[derive(Clone, Copy)]
 pub enum Explained {
     Said(Why),
     Refused(ExplainRefusal),

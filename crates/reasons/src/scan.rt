@@ -15,7 +15,7 @@ use std::num::wrapping_sub_u32;
 
 // What a pass finds, each by its index, or the number of records where there is none. Of the records over a block: the first that contains the extent and
 // lines up with it, the first that contains it, the first of all, and the second.
-#[derive(Drop)]
+#[derive(Clone, Copy)]
 pub(crate) struct Found {
     pub ordered: bool,
     pub aligned: usize,
@@ -25,7 +25,7 @@ pub(crate) struct Found {
 }
 
 // The index of the first record over a block other than the one cut, or the number of records.
-#[derive(Drop)]
+#[derive(Clone, Copy)]
 pub(crate) enum Other {
     Refused(EditRefusal),
     At(usize),

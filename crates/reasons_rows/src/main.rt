@@ -1,5 +1,7 @@
 // Blocks of a letting go explained, run: 0 free now, 1 still held, 2 staging, or the number of the question that failed; then, on a line of its own, the bytes
 // of the deciding record in hexadecimal. `stdout` was worked out by hand.
+#![tactic(auto)]
+
 use codec::rmap::Rmap;
 use reasons::explain::explain;
 use show::lines::words;

@@ -1,6 +1,8 @@
 // Replays cases from standard input and compares answers, figures and every byte of lent memory with those that the Rust original gave, or a
 // definition where it has no such call, or, for trees of real volumes, with what another tool printed. docs/REPLAY.md has the layout of a case
 // and says how the cases were made.
+#![tactic(auto)]
+
 ghost use Rattle.std.specs.Prelude.{◌≡◌, length};
 
 use codec::endian::{be32, be64, put_be64};

@@ -22,7 +22,7 @@ const LET_GO: u32 = 2;
 const TAKE_HELD: u32 = 3;
 
 // What a change asks for, with its extent: `insert`, `let_go` or `take_held`.
-#[derive(Drop)]
+#[derive(Clone, Copy)]
 pub enum SheetChange {
     FirstTake(Rmap),
     LetGo(Rmap),

@@ -1,4 +1,6 @@
 // Answer sheets: lists of changes, in blocks of 512 bytes with a CRC each.
+#![tactic(auto)]
+
 ghost use Rattle.codec.specs.Told.{Tells};
 ghost use Rattle.sheets.specs.Answer.{sheet_number, sheet_values};
 
@@ -10,7 +12,7 @@ pub mod read;
 pub mod write;
 
 // Why a sheet or a list of changes is refused. The number of each case (docs/QUESTIONS.md) is `sheet_number` of specs/Answer.antt.
-#[derive(Drop)]
+#[derive(Clone, Copy)]
 pub enum SheetRefusal {
     // the output is too short
     Room,
@@ -33,7 +35,7 @@ impl SheetRefusal {
     }
 }
 
-#[derive(Drop)]
+#[derive(Clone, Copy)]
 pub enum Sheeted {
     // the bytes of the changes read, or of the sheet written
     Done(usize),

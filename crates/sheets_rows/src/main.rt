@@ -1,5 +1,7 @@
 // Sheets of changes, written, read back, damaged and refused. A line has the answer, the CRC of all that was lent, so that every byte counts, and its first
 // 64 bytes; 0xEE was there before. `stdout` was worked out apart from this code.
+#![tactic(auto)]
+
 ghost use Rattle.std.specs.Prelude.{◌≡◌, ◌+◌, ◌≤◌, length};
 
 use codec::crc::crc32c;
@@ -107,7 +109,7 @@ fn damage(sheet: &mut [u8], at: usize, value: u8, again: bool) {
 }
 
 // A byte of a sheet, and what it is set to.
-#[derive(Drop)]
+#[derive(Clone, Copy)]
 struct Byte {
     at: usize,
     value: u8,

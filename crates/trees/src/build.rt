@@ -28,7 +28,7 @@ use free::order::Order;
 use walks::memory::zero8;
 
 // Why build is refused. The number of each case (docs/QUESTIONS.md) is `build_number` of specs/BuildAnswer.antt.
-#[derive(Drop)]
+#[derive(Clone, Copy)]
 pub enum BuildRefusal {
     // the geometry is none: 1
     BadGeometry,
@@ -60,7 +60,7 @@ impl BuildRefusal {
     }
 }
 
-#[derive(Drop)]
+#[derive(Clone, Copy)]
 pub enum Built {
     // how many bytes were written
     Done(usize),
@@ -68,7 +68,7 @@ pub enum Built {
 }
 
 // Where a block goes, and the blocks before and after it on its level.
-#[derive(Drop)]
+#[derive(Clone, Copy)]
 struct Place {
     number: u32,
     left: u32,

@@ -12,7 +12,7 @@ use codec::endian::{put_be32, put_be64};
 use codec::rmap::{OFF_LIMIT, RMAP_LEN, Rmap, decode, exempt};
 
 // A key: start, owner and the whole offset of a record.
-#[derive(Drop)]
+#[derive(Clone, Copy)]
 struct RmapKey {
     start: u32,
     owner: u64,

@@ -13,7 +13,7 @@ use blocks::kind::{TreeKind, block_capacity};
 use codec::refusal::Told;
 
 // Why a plan is refused. The number of each case (docs/QUESTIONS.md) is `plan_number` of specs/PlanAnswer.antt.
-#[derive(Drop)]
+#[derive(Clone, Copy)]
 pub enum PlanRefusal {
     // the geometry is none: 1
     BadGeometry,
@@ -34,7 +34,7 @@ impl PlanRefusal {
 }
 
 // What a plan comes to.
-#[derive(Drop)]
+#[derive(Clone, Copy)]
 pub enum PlanAnswer {
     // the number of levels
     Levels(usize),
@@ -43,7 +43,7 @@ pub enum PlanAnswer {
 
 // A plan: the blocks of each level, leaves first, and of all levels together. Places past the last level are 0, and so are all numbers of a
 // refused plan.
-#[derive(Drop)]
+#[derive(Clone, Copy)]
 pub struct Planned {
     pub answer: PlanAnswer,
     pub blocks: [u64; 9],
@@ -52,7 +52,7 @@ pub struct Planned {
 
 // The levels of a plan: how many, the blocks of each, leaves first, and of all together. `few` is question 16: are there up to 9? If not, the
 // numbers are 0.
-#[derive(Drop)]
+#[derive(Clone, Copy)]
 pub(crate) struct LevelPlan {
     pub(crate) few: bool,
     pub(crate) levels: usize,

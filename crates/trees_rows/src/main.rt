@@ -1,6 +1,8 @@
 // Trees of the reverse map over blocks of 512 bytes, run: plans; a tree of three levels built, stored at scattered numbers and walked back, whole
 // and with one link damaged; builds and walks refused by each question. A walk's line says whether the levels are linked, and ends with what
 // became of the lists and scratches. Lookups in that tree are in lookups.rt. `stdout` was worked out apart from this code.
+#![tactic(auto)]
+
 ghost use Rattle.std.specs.Prelude.{◌<◌};
 
 mod lookups;
@@ -282,7 +284,7 @@ fn walk_in(
 }
 
 // The places and bytes that a walk is lent, out of 80, 120, 120 and 5000.
-#[derive(Drop)]
+#[derive(Clone, Copy)]
 struct Lengths {
     stack: usize,
     scratch: usize,

@@ -8,7 +8,7 @@ use blocks::check::BlockRefusal;
 use blocks::geometry::Geometry;
 
 // What the questions before the first visit come to.
-#[derive(Drop)]
+#[derive(Clone, Copy)]
 pub enum First {
     Ready,
     Refused(WalkRefusal),

@@ -11,7 +11,7 @@ use blocks::geometry::{AgBlock, Geometry};
 use blocks::kind::TreeKind;
 
 // What a look comes to: the block's header, or 14 and the refusals of the block check.
-#[derive(Drop)]
+#[derive(Clone, Copy)]
 pub enum Looked {
     Good(Header),
     Refused(WalkRefusal),

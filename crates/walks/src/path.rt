@@ -16,7 +16,7 @@ use codec::endian::{be16, be32};
 pub const STACK_PLACES: usize = 18;
 
 // The next block due, or none.
-#[derive(Drop)]
+#[derive(Clone, Copy)]
 pub enum Next {
     Block { block: u32, level: u32 },
     Nothing,

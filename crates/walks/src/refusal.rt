@@ -6,7 +6,7 @@ use blocks::check::BlockRefusal;
 use codec::refusal::Told;
 
 // The number of each case (docs/QUESTIONS.md) is `walk_number` of specs/WalkAnswer.antt.
-#[derive(Drop)]
+#[derive(Clone, Copy)]
 pub enum WalkRefusal {
     // there are not 1 to 9 levels: 11
     Levels,

@@ -17,21 +17,21 @@ use blocks::kind::TreeKind;
 use codec::copy::copy;
 
 // The blocks read and the record bytes stored so far.
-#[derive(Drop)]
+#[derive(Clone, Copy)]
 pub struct Count {
     pub visits: usize,
     pub bytes: usize,
 }
 
 // The blocks that a block names before and after it on its level.
-#[derive(Drop)]
+#[derive(Clone, Copy)]
 pub struct Siblings {
     pub left: u32,
     pub right: u32,
 }
 
 // What became of a block that was due: it was read, or its refusal ends the walk.
-#[derive(Drop)]
+#[derive(Clone, Copy)]
 pub enum Verdict {
     Read,
     Refused(WalkRefusal),
@@ -39,7 +39,7 @@ pub enum Verdict {
 
 // A visit: what became of the block and, where it was read, the counts after it and its siblings. These stand beside the verdict: with them inside it walks
 // took longer (docs/PERFORMANCE.md).
-#[derive(Drop)]
+#[derive(Clone, Copy)]
 pub struct Step {
     pub count: Count,
     pub siblings: Siblings,

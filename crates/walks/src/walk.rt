@@ -22,7 +22,7 @@ use blocks::geometry::{AgBlock, Geometry, NULL_AGBLOCK};
 use blocks::kind::TreeKind;
 
 // What a walk comes to. `visits` counts the blocks that passed 13; in a finished walk these are the blocks of the block list.
-#[derive(Drop)]
+#[derive(Clone, Copy)]
 pub enum Walked {
     Read {
         visits: usize,
@@ -37,7 +37,7 @@ pub enum Walked {
 
 // A walk, and whether every level of the tree is linked: each block names the one before it on its level and the one after, all ones at the ends. Where the
 // walk is refused the answer is no.
-#[derive(Drop)]
+#[derive(Clone, Copy)]
 pub struct Linking {
     pub walked: Walked,
     pub linked: bool,
