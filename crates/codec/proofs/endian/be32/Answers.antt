@@ -1,0 +1,9 @@
+-- `codec::endian::be32` meets its contract: the law of two parts, at two halves.
+use native.Mathlib.Omega.{arith}
+use Rattle.codec.proofs.Fields.{be-read}
+use Rattle.codec.proofs.endian.be32.Goals as goal
+
+pub returns : goal.returns
+returns c =
+    let a = c.args in
+    cc (be-read a.b.now a.off 2 2 (omega arith))
