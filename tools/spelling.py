@@ -61,7 +61,8 @@ HERE = [
 # the fact `left` of WalkState, where 'left' is also a field and a variable
 LEFT = [("WalkState.{left}", "WalkState.{Leaves}"), ("{ left result.walked", "{ Leaves result.walked"), (" left x (", " Leaves x (")]
 
-TOKEN = re.compile(r"(?<![\w'-])[^\W\d][\w'₀-₉-]*")
+# the SCSI of networks, and the escapes of strings (\x1F), which are no names of this repository
+TOKEN = re.compile(r"(?<![\w'\\-])(?!iSCSI)[^\W\d][\w'₀-₉-]*")
 LOWER_CAMEL = re.compile(r"[a-z0-9][A-Z]")
 
 

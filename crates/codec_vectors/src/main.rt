@@ -57,15 +57,15 @@ fn checks() {
     forms(b"ones", &[0xFFu8; 32]);
     forms(
         b"rising",
-        b"\x00\x01\x02\x03\x04\x05\x06\x07\x08\x09\x0_a\x0_b\x0_c\x0_d\x0_e\x0_f\x10\x11\x12\x13\x14\x15\x16\x17\x18\x19\x1_a\x1_b\x1_c\x1_d\x1_e\x1_f",
+        b"\x00\x01\x02\x03\x04\x05\x06\x07\x08\x09\x0A\x0B\x0C\x0D\x0E\x0F\x10\x11\x12\x13\x14\x15\x16\x17\x18\x19\x1A\x1B\x1C\x1D\x1E\x1F",
     );
     forms(
         b"falling",
-        b"\x1_f\x1_e\x1_d\x1_c\x1_b\x1_a\x19\x18\x17\x16\x15\x14\x13\x12\x11\x10\x0_f\x0_e\x0_d\x0_c\x0_b\x0_a\x09\x08\x07\x06\x05\x04\x03\x02\x01\x00",
+        b"\x1F\x1E\x1D\x1C\x1B\x1A\x19\x18\x17\x16\x15\x14\x13\x12\x11\x10\x0F\x0E\x0D\x0C\x0B\x0A\x09\x08\x07\x06\x05\x04\x03\x02\x01\x00",
     );
-    // An i_sCSI SCSI Read (10) Command PDU. Its bytes 4 to 7 are zeros.
+    // An iSCSI SCSI Read (10) Command PDU. Its bytes 4 to 7 are zeros.
     let mut pdu =
-        *b"\x01\x_c0\0\0\0\0\0\0\0\0\0\0\0\0\0\0\x14\0\0\0\0\0\x04\0\0\0\0\x14\0\0\0\x18\x28\0\0\0\0\0\0\0\x02\0\0\0\0\0\0\0";
+        *b"\x01\xC0\0\0\0\0\0\0\0\0\0\0\0\0\0\0\x14\0\0\0\0\0\x04\0\0\0\0\x14\0\0\0\x18\x28\0\0\0\0\0\0\0\x02\0\0\0\0\0\0\0";
     forms(b"pdu", &pdu);
     let check = crc::crc32c(&pdu);
     endian::put_le32(&mut pdu, 4, check);
@@ -161,11 +161,11 @@ fn lists() {
     rmaps(b"a byte", b"\0");
     rmaps(
         b"owner 7 before owner -3",
-        b"\0\0\0\x04\0\0\0\x04\0\0\0\0\0\0\0\x07\0\0\0\0\0\0\0\0\0\0\0\x04\0\0\0\x04\x_fF\x_fF\x_fF\x_fF\x_fF\x_fF\x_fF\x_fD\0\0\0\0\0\0\0\0",
+        b"\0\0\0\x04\0\0\0\x04\0\0\0\0\0\0\0\x07\0\0\0\0\0\0\0\0\0\0\0\x04\0\0\0\x04\xFF\xFF\xFF\xFF\xFF\xFF\xFF\xFD\0\0\0\0\0\0\0\0",
     );
     rmaps(
         b"owner -3 before owner 7",
-        b"\0\0\0\x04\0\0\0\x04\x_fF\x_fF\x_fF\x_fF\x_fF\x_fF\x_fF\x_fD\0\0\0\0\0\0\0\0\0\0\0\x04\0\0\0\x04\0\0\0\0\0\0\0\x07\0\0\0\0\0\0\0\0",
+        b"\0\0\0\x04\0\0\0\x04\xFF\xFF\xFF\xFF\xFF\xFF\xFF\xFD\0\0\0\0\0\0\0\0\0\0\0\x04\0\0\0\x04\0\0\0\0\0\0\0\x07\0\0\0\0\0\0\0\0",
     );
     rmaps(
         b"equal but for bit 61",
@@ -177,15 +177,15 @@ fn lists() {
     );
     rmaps(
         b"end 2147483649",
-        b"\x7_f\x_fF\x_fF\x_fF\0\0\0\x02\0\0\0\0\0\0\0\x07\0\0\0\0\0\0\0\0",
+        b"\x7F\xFF\xFF\xFF\0\0\0\x02\0\0\0\0\0\0\0\x07\0\0\0\0\0\0\0\0",
     );
     rmaps(
         b"file offset and count 2^54 + 1",
-        b"\0\0\0\x04\0\0\0\x02\0\0\0\0\0\0\0\x07\0\x3_f\x_fF\x_fF\x_fF\x_fF\x_fF\x_fF",
+        b"\0\0\0\x04\0\0\0\x02\0\0\0\0\0\0\0\x07\0\x3F\xFF\xFF\xFF\xFF\xFF\xFF",
     );
     rmaps(
         b"the same with bit 62",
-        b"\0\0\0\x04\0\0\0\x02\0\0\0\0\0\0\0\x07\x40\x3_f\x_fF\x_fF\x_fF\x_fF\x_fF\x_fF",
+        b"\0\0\0\x04\0\0\0\x02\0\0\0\0\0\0\0\x07\x40\x3F\xFF\xFF\xFF\xFF\xFF\xFF",
     );
     refcounts(b"eleven bytes", b"\0\0\0\0\0\0\0\x01\0\0\0");
     refcounts(b"one owner", b"\0\0\0\0\0\0\0\x01\0\0\0\x01");

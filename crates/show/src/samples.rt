@@ -19,7 +19,7 @@ pub fn geometry(version: u16, blocksize: u32, agblocks: u32) -> Geometry
         blocksize,
         agblocks,
         agno: 3,
-        meta_uuid: *b"\x10\x11\x12\x13\x14\x15\x16\x17\x18\x19\x1_a\x1_b\x1_c\x1_d\x1_e\x1_f",
+        meta_uuid: *b"\x10\x11\x12\x13\x14\x15\x16\x17\x18\x19\x1A\x1B\x1C\x1D\x1E\x1F",
         last_lsn: 0x2122232425262728,
     }
 }
