@@ -61,8 +61,9 @@ HERE = [
 # the fact `left` of WalkState, where 'left' is also a field and a variable
 LEFT = [("WalkState.{left}", "WalkState.{Leaves}"), ("{ left result.walked", "{ Leaves result.walked"), (" left x (", " Leaves x (")]
 
-# the SCSI of networks, and the escapes of strings (\x1F), which are no names of this repository
-TOKEN = re.compile(r"(?<![\w'\\-])(?!iSCSI)[^\W\d][\w'₀-₉-]*")
+# the SCSI of networks is no name of this repository
+TOKEN = re.compile(r"(?<![\w'-])(?!iSCSI)[^\W\d][\w'₀-₉-]*")
+STRING = re.compile(r'b?"(?:[^"\\\n]|\\.)*"')
 LOWER_CAMEL = re.compile(r"[a-z0-9][A-Z]")
 
 
@@ -93,6 +94,15 @@ def sources():
 def papers():
     # CHANGES.md keeps the names of its time
     return [p for p in ["README.md", *sorted(glob.glob("docs/*.md"))] if os.path.basename(p) not in ("CHANGES.md", "PORT.md")]
+
+
+def outside_strings(turn, text):
+    """turn of the text between strings, which keep what they have"""
+    out, at = [], 0
+    for m in STRING.finditer(text):
+        out += [turn(text[at : m.start()]), m[0]]
+        at = m.end()
+    return "".join(out) + turn(text[at:])
 
 
 def modules():
@@ -148,7 +158,7 @@ def main(look):
                     print(f"together: {p}: {old} {new}")
         if not look and moves:
             with open(p, "w", encoding="utf-8") as f:
-                f.write(TOKEN.sub(lambda m: moves.get(m[0], m[0]), text))
+                f.write(outside_strings(lambda part: TOKEN.sub(lambda m: moves.get(m[0], m[0]), part), text))
     for p in papers():
         with open(p, encoding="utf-8") as f:
             text = f.read()

@@ -235,12 +235,12 @@ fn damaged() {
 }
 
 fn free_space() {
-    show_fresh(b"by_block leaf, 4", 4, TreeKind::ByBlock, 0, 62);
-    show_fresh(b"by_block leaf, 4, too full", 4, TreeKind::ByBlock, 0, 63);
+    show_fresh(b"by-block leaf, 4", 4, TreeKind::ByBlock, 0, 62);
+    show_fresh(b"by-block leaf, 4, too full", 4, TreeKind::ByBlock, 0, 63);
     show_fresh(b"by_block node, 4", 4, TreeKind::ByBlock, 1, 41);
     show_fresh(b"by_block node, 4, too full", 4, TreeKind::ByBlock, 1, 42);
-    show_fresh(b"by_block leaf, 5", 5, TreeKind::ByBlock, 0, 57);
-    show_fresh(b"by_block leaf, 5, too full", 5, TreeKind::ByBlock, 0, 58);
+    show_fresh(b"by-block leaf, 5", 5, TreeKind::ByBlock, 0, 57);
+    show_fresh(b"by-block leaf, 5, too full", 5, TreeKind::ByBlock, 0, 58);
     show_fresh(b"by-size leaf, 4", 4, TreeKind::BySize, 0, 62);
     show_fresh(b"by-size node, 5", 5, TreeKind::BySize, 1, 38);
     show_fresh(b"by-size node, 5, too full", 5, TreeKind::BySize, 1, 39);
