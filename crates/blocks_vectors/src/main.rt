@@ -237,8 +237,8 @@ fn damaged() {
 fn free_space() {
     show_fresh(b"by-block leaf, 4", 4, TreeKind::ByBlock, 0, 62);
     show_fresh(b"by-block leaf, 4, too full", 4, TreeKind::ByBlock, 0, 63);
-    show_fresh(b"by_block node, 4", 4, TreeKind::ByBlock, 1, 41);
-    show_fresh(b"by_block node, 4, too full", 4, TreeKind::ByBlock, 1, 42);
+    show_fresh(b"by-block node, 4", 4, TreeKind::ByBlock, 1, 41);
+    show_fresh(b"by-block node, 4, too full", 4, TreeKind::ByBlock, 1, 42);
     show_fresh(b"by-block leaf, 5", 5, TreeKind::ByBlock, 0, 57);
     show_fresh(b"by-block leaf, 5, too full", 5, TreeKind::ByBlock, 0, 58);
     show_fresh(b"by-size leaf, 4", 4, TreeKind::BySize, 0, 62);
@@ -261,12 +261,12 @@ fn free_space_taken() {
 }
 
 fn free_space_damaged() {
-    show_hurt(b"by_block magic, 4", 4, TreeKind::ByBlock, 3, 0x43, false);
-    show_hurt(b"by_block body, 4", 4, TreeKind::ByBlock, 511, 1, false);
-    show_hurt(b"by_block byte 52, 4", 4, TreeKind::ByBlock, 52, 1, false);
-    show_hurt(b"by_block level, 4", 4, TreeKind::ByBlock, 4, 1, false);
-    show_hurt(b"by_block records, 4", 4, TreeKind::ByBlock, 7, 42, false);
-    show_hurt(b"by_block left, 4", 4, TreeKind::ByBlock, 11, 5, false);
+    show_hurt(b"by-block magic, 4", 4, TreeKind::ByBlock, 3, 0x43, false);
+    show_hurt(b"by-block body, 4", 4, TreeKind::ByBlock, 511, 1, false);
+    show_hurt(b"by-block byte 52, 4", 4, TreeKind::ByBlock, 52, 1, false);
+    show_hurt(b"by-block level, 4", 4, TreeKind::ByBlock, 4, 1, false);
+    show_hurt(b"by-block records, 4", 4, TreeKind::ByBlock, 7, 42, false);
+    show_hurt(b"by-block left, 4", 4, TreeKind::ByBlock, 11, 5, false);
     show_hurt(b"by-size body, 5", 5, TreeKind::BySize, 511, 1, false);
     show_hurt(b"by-size uuid, 5", 5, TreeKind::BySize, 32, 0, true);
     show_hurt(b"by-size owner, 5", 5, TreeKind::BySize, 51, 4, true);
