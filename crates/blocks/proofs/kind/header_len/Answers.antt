@@ -1,0 +1,12 @@
+-- `blocks::kind::header_len` meets its contract: by the version.
+use borrow.Author.Tests.{eq-eqb, ne_eqb}
+use Rattle.blocks.specs.Tree.{header_len}
+use Rattle.blocks.proofs.kind.header_len.Goals as goal
+
+pub returns-then-version-eq5 : goal.returns-then-version-eq5
+unfolding header_len
+returns-then-version-eq5 c = rw (eq-eqb _ _ c.if-version-eq5.true)
+
+pub returns-else-version-eq5 : goal.returns-else-version-eq5
+unfolding header_len
+returns-else-version-eq5 c = rw (ne_eqb _ _ c.if-version-eq5.false)
