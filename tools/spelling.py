@@ -59,7 +59,7 @@ HERE = [
     ("crates/walks/specs/inner/WalkState.antt", "left", "Leaves"),
 ]
 # the fact `left` of WalkState, where 'left' is also a field and a variable
-LEFT = [("WalkState.{left}", "WalkState.{Leaves}"), ("{ left result.walked", "{ Leaves result.walked"), (" left x (", " Leaves x (")]
+LEFT = [("WalkState.{left}", "WalkState.{Leaves}"), ("{ left result.walked", "{ Leaves result.walked"), (" left x (", " Leaves x ("), ("→ left (Read", "→ Leaves (Read")]
 
 # the SCSI of networks is no name of this repository
 TOKEN = re.compile(r"(?<![\w'-])(?!iSCSI)[^\W\d][\w'₀-₉-]*")

@@ -11,7 +11,7 @@ use borrow.Author.Tests.{lt-ltb, eqb-false}
 use Rattle.codec.specs.Accepted.{in_order}
 use Rattle.codec.specs.declared.free_extent.FreeExtent.{FreeExtent}
 use Rattle.free.specs.declared.order.Order.{Order}
-use Rattle.free.specs.Free.{good, follows, least, accepted}
+use Rattle.free.specs.Free.{good, follows, least}
 use Rattle.free.specs.Same.{alike, occurs, equally_often, same_extents}
 use Rattle.free.specs.Claims.{EverySame, EveryOnce}
 use Rattle.free.specs.Inner.Searches.{is_in, all_in}

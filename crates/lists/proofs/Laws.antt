@@ -4,7 +4,7 @@
 use Prim.Native.Nat.{ℕ, ◌+◌, ◌^◌, ◌≤◌, ◌<◌}
 use mathlib.Core.Bool.{Bool, true, cond, ◌&&◌}
 use mathlib.Core.Path.{◌≡◌, refl, sym, subst, ◌∙◌}
-use mathlib.Core.List.{List, []}
+use mathlib.Core.List.{List}
 use native.Mathlib.Omega.{arith}
 use lib.Dec.{eqb}
 use lib.ListN.{length, take, drop}
@@ -25,7 +25,6 @@ use Rattle.lists.specs.Holders.{holders}
 use Rattle.lists.specs.Held.{held_none, no_overlap}
 use Rattle.lists.specs.RmapEdits.{insert, unclashed, insert_shared, contained, remove}
 use Rattle.lists.specs.Release.{owners, release, unshared, fewer}
-use Rattle.lists.specs.Release as counts
 use Rattle.lists.specs.Edits.{insert_outcome, insert_shared_outcome, remove_outcome, Freed, release_outcome, written}
 use Rattle.lists.proofs.Done.{edit-done, release-done}
 use Rattle.lists.proofs.RmapOrder.{good-facts, accepted-facts, facts-accepted, acc-insert, acc-insert_shared, acc-remove}

@@ -13,7 +13,7 @@ use lib.Seq.{get_or-take, drop-drop}
 use borrow.Author.Tests.{lt-ltb}
 use Rattle.codec.specs.Rmaps.{end, before, follows, least}
 use Rattle.codec.specs.declared.rmap.Rmap.{Rmap}
-use Rattle.lists.specs.RmapEdits.{index_where, first, any, replace, place, contains, contained, lines_up, chosen, front, later, place_later, cut_out, remove}
+use Rattle.lists.specs.RmapEdits.{index_where, first, replace, place, contains, contained, lines_up, chosen, front, later, place_later, cut_out, remove}
 use Rattle.lists.specs.Splice.{between}
 use Rattle.lists.specs.Inner.Searches.{seat}
 use Rattle.lists.proofs.Cases.{split, tests, conj}

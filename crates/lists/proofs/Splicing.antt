@@ -17,7 +17,6 @@ use Rattle.codec.specs.Rmaps.{end, follows, least, accepted, good}
 use Rattle.codec.specs.declared.check.ListRefusal.TheVariants.{Length, RmapOrder}
 use Rattle.codec.specs.declared.rmap.Rmap.{Rmap}
 use Rattle.lists.specs.declared.EditRefusal.TheVariants as why
-use Rattle.lists.specs.declared.Edited.TheVariants as said
 use Rattle.lists.specs.declared.splice.Edit.{Edit}
 use Rattle.lists.specs.declared.splice.Edit.TheVariants.{Insert, InsertShared, Remove}
 use Rattle.lists.specs.declared.findings.Joined.{Joined}

@@ -264,7 +264,7 @@ pub(crate) fn seat(list: &[u8], z: Rmap) -> usize
 pub(crate) fn after(list: &[u8], x: Rmap) -> usize
     requires list_value { accepted (records_of rmaps list.now) ≡ true }
     requires x_value { good x ≡ true }
-    ensures* { λ r. ⌜ r ≡ index_where (λ r. ltb x.startblock r.startblock) (records_of rmaps list.now) ⌝ }
+    ensures { result ≡ index_where (λ r. ltb x.startblock r.startblock) (records_of rmaps list.now) }
 {
     let z = Rmap {
         startblock: x.startblock + 1,

@@ -34,7 +34,7 @@ use Rattle.trees.specs.declared.plan.LevelPlan.{LevelPlan}
 use Rattle.trees.specs.declared.build.BuildRefusal.TheVariants as why
 use Rattle.trees.specs.declared.build.Built.{Built}
 use Rattle.trees.specs.declared.build.Built.TheVariants.{Done, Refused}
-use Rattle.trees.specs.Build.{plan_of, build, output}
+use Rattle.trees.specs.Build.{plan_of, build}
 use Rattle.trees.specs.BuildCall.{layout_of, order_number, ordered, built_bytes, build_outcome}
 use Rattle.trees.specs.Inner.BuildSteps.{check_list, room_outcome, plan_then_room}
 use Rattle.trees.specs.BuildAnswer.{Builds}

@@ -10,7 +10,7 @@ use mathlib.Core.List.{List, [], ◌∷◌}
 use lib.Dec.{ltb, eqb}
 use borrow.Author.Tests.{ltb-true, ltb-false, leb-true, leb-false, eqb-true, eqb-false, le-ltb}
 use Rattle.codec.specs.Accepted.{in_order}
-use Rattle.codec.specs.Rmaps.{flags, reserved, mapping, exempt, good, key_offset, before, follows, accepted}
+use Rattle.codec.specs.Rmaps.{reserved, mapping, exempt, good, key_offset, before, follows, accepted}
 use Rattle.codec.specs.declared.rmap.Rmap.{Rmap}
 use Rattle.trees.specs.declared.keys.RmapKey.{RmapKey}
 use Rattle.trees.specs.Keys.{high_key, key_below, greater, greatest, highest}

@@ -43,7 +43,7 @@ visits-within s image root levels limit places room w v n b e =
 
 module _ (w levels : ℕ) (t : Trace) (stack stack₁ stack' scratch scratch₁ scratch' blocks blocks' out out₁ : List ℕ)
     (ls : length stack₁ ≡ length stack) (lc : length scratch₁ ≡ length scratch) (zs : stack' ≡ zeros stack₁) (zc : scratch' ≡ zeros scratch₁) where
-  pub call-read : (r : Walked) (v n b : ℕ) → r ≡ Read v n b → walked_report (Read v n b) ≡ report w (done t) → left (Read v n b) t scratch₁ out out₁
+  pub call-read : (r : Walked) (v n b : ℕ) → r ≡ Read v n b → walked_report (Read v n b) ≡ report w (done t) → Leaves (Read v n b) t scratch₁ out out₁
       → blocks' ≡ with_bytes blocks 0 (by_level levels (seen_of (take v scratch₁)))
       → WalkIs w levels (done t) r stack stack' scratch scratch' blocks blocks' out out₁
   call-read r v n b q e f g =

@@ -1,6 +1,6 @@
 -- What an edit of a reverse map searches for: which records pass each search, and what one pass over the list finds.
 -- Assumes nothing.
-use Rattle.std.specs.Prelude.{ℕ, ◌%◌, ◌≡◌, Bool, true, false, ◌&&◌, List, [], ◌++◌, leb, length}
+use Rattle.std.specs.Prelude.{ℕ, ◌%◌, ◌≡◌, Bool, true, false, ◌&&◌, List, ◌++◌, leb, length}
 use Rattle.codec.specs.Question.{Outcome, refused, Question, answer}
 use Rattle.codec.specs.Records.{records_of, rmaps}
 use Rattle.codec.specs.Rmaps.{end, good, follows, accepted}

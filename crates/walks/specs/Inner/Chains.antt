@@ -1,6 +1,6 @@
 -- What is held of each level while its links are followed: the block met last, and the one that it named as next.
 -- Assumes nothing.
-use Rattle.std.specs.Prelude.{ℕ, zero, suc, ◌^◌, ◌<◌, ◌≡◌, Bool, true, ◌&&◌, ◌||◌, List, [], eqb, get_or, set}
+use Rattle.std.specs.Prelude.{ℕ, zero, suc, ◌^◌, ◌<◌, ◌≡◌, Bool, true, ◌&&◌, ◌||◌, List, eqb, get_or, set}
 use Rattle.blocks.specs.Geometry.{null_ag_block}
 use Rattle.walks.specs.Walk.{Visit, at_level}
 use Rattle.walks.specs.Links.{next, linked}
