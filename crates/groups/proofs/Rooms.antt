@@ -25,7 +25,6 @@ use Rattle.codec.proofs.RecordKinds.{rmaps-lawful, refcounts-lawful, free_extent
 use Rattle.codec.proofs.ListBytes.{storable-records_of, IsBytes-bytes_of}
 use Rattle.lists.specs.declared.splice.Edit.{Edit}
 use Rattle.lists.specs.declared.splice.Edit.TheVariants.{Insert, InsertShared, Remove}
-use Rattle.lists.specs.declared.Edited.TheVariants as single
 use Rattle.lists.specs.Extent as blocks
 use Rattle.lists.specs.Holders as holding
 use Rattle.lists.specs.RmapEdits as edits
@@ -40,7 +39,6 @@ use Rattle.lists.proofs.Cases.{and-true}
 use Rattle.lists.proofs.Staged as extents
 use Rattle.lists.proofs.Placing.{good-end}
 use Rattle.lists.proofs.Growing.{map-length, counts-length}
-use Rattle.groups.specs.declared.GroupEdited.TheVariants as both
 use Rattle.groups.specs.LetGo.{let_go_questions, let_go_outcome}
 use Rattle.groups.specs.TakeHeld.{take_held_questions, take_held_outcome}
 use Rattle.groups.specs.History.{Lists, Change, take, take_held, let_go, step}

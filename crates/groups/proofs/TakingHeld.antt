@@ -7,8 +7,6 @@ use mathlib.Core.Bool.{Bool, true, false, not}
 use mathlib.Core.List.{List, [], ◌∷◌, ◌++◌}
 use lib.ListN.{length}
 use borrow.Author.Tests.{not-true, not-false}
-use denote.Enum.Declared.{tag_of}
-use types.Run.{OneOf, miss}
 use Rattle.codec.specs.Bytes.{with_bytes}
 use Rattle.codec.specs.Question.{none, Outcome, done, refused, ask, answer}
 use Rattle.codec.specs.Records.{records_of, bytes_of, rmaps, refcounts, free_extents}
@@ -24,7 +22,6 @@ use Rattle.codec.specs.declared.refcount.Refcount.{Refcount}
 use Rattle.codec.proofs.Meaning.{done-means}
 use Rattle.lists.specs.declared.EditRefusal.{EditRefusal}
 use Rattle.lists.specs.declared.EditRefusal.TheVariants as why
-use Rattle.lists.specs.declared.Edited.TheVariants as edited
 use Rattle.lists.specs.declared.splice.Edit.TheVariants.{InsertShared}
 use Rattle.lists.specs.declared.splice.Splice.{Splice}
 use Rattle.lists.specs.declared.splice.Prepared.TheVariants as prepared
@@ -36,7 +33,6 @@ use Rattle.lists.specs.Raise.{owners_fit, raise_outcome, Raisable}
 use Rattle.lists.specs.Edits.{map_questions, count_questions}
 use Rattle.lists.specs.Answer.{edit_number, length_of}
 use Rattle.lists.specs.Splice.{edit_before26, prepared_outcome, list_of, PreparedIs}
-use Rattle.lists.specs.contracts.EditRefusal.{the_type}
 use Rattle.lists.proofs.RmapOrder.{good-facts}
 use Rattle.groups.specs.declared.Sizes.{Sizes}
 use Rattle.groups.specs.declared.measured.Measure.{Measure}
@@ -65,10 +61,10 @@ list-early list.ExtentOrder = omega arith
 
 -- the arm of every refusal but that of the list
 abbrev NotList : EditRefusal → Type 0
-NotList q = OneOf (1 ∷ 2 ∷ 3 ∷ 4 ∷ 5 ∷ 6 ∷ 7 ∷ []) (tag_of the_type q)
+NotList q = (r : ListRefusal) → q ≡ why.List r → ⊥
 
 after_list : (counts : List ℕ) (q : EditRefusal) → NotList q → counts_before counts q ≡ after_counts counts q
-after_list counts (why.List r) k = absurd (miss (1 ∷ 2 ∷ 3 ∷ 4 ∷ 5 ∷ 6 ∷ 7 ∷ []) 0 tt k)
+after_list counts (why.List r) k = absurd (k r refl)
 after_list counts why.Extent k = refl
 after_list counts why.Overlap k = refl
 after_list counts why.Missing k = refl
@@ -90,7 +86,7 @@ counts-accepted counts q k n e =
     after_list counts q k ∙ answer-done (count_questions counts) [] (length counts / 12) n (refused (edit_number q) none) (sym e)
 
 -- the arm of every refusal but 28
-pub before-held : (m : List Rmap) (x : Rmap) (q : EditRefusal) → OneOf (0 ∷ 1 ∷ 2 ∷ 3 ∷ 4 ∷ 5 ∷ 6 ∷ []) (tag_of the_type q)
+pub before-held : (m : List Rmap) (x : Rmap) (q : EditRefusal) → (q ≡ why.Owners → ⊥)
     → held_before m x q ≡ refused (edit_number q) none
 before-held m x (why.List r) k = refl
 before-held m x why.Extent k = refl
@@ -99,7 +95,7 @@ before-held m x why.Missing k = refl
 before-held m x why.Staging k = refl
 before-held m x why.Room k = refl
 before-held m x why.Unheld k = refl
-before-held m x why.Owners k = absurd (miss (0 ∷ 1 ∷ 2 ∷ 3 ∷ 4 ∷ 5 ∷ 6 ∷ []) 7 tt k)
+before-held m x why.Owners k = absurd (k refl)
 
 -- ---- all questions but 26
 

@@ -11,7 +11,7 @@ use Rattle.blocks.specs.declared.kind.TreeKind.TheVariants as kind
 use Rattle.blocks.specs.Geometry.{geometry_ok, with_lsn}
 use Rattle.trees.specs.Plan.{sum, leaves, above, levels_of}
 use Rattle.trees.specs.BlockLayout.{Sound}
-use Rattle.walks.specs.Walk.{visit_of, Trace, run, fit, visits, records, Shape, per_leaf, per_node, look_in}
+use Rattle.walks.specs.Walk.{visit_of, Trace, run, fit, visits, Shape, per_leaf, per_node, look_in}
 use Rattle.walks.specs.Shapes.{shape_of}
 use Rattle.walks.specs.WalkCall.{stack_places, walk_in}
 use Rattle.trees.specs.Build.{plan_of, build, root_of, AreNumbers, Holds}

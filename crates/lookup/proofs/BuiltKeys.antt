@@ -1,6 +1,6 @@
 -- The keys of a tree that build built are theirs: level by level, from the leaves up.
 -- Assumes nothing.
-use Rattle.std.proofs.Common.{◌≡◌, ℕ, zero, suc, ◌+◌, ◌-◌, ◌*◌, ◌/◌, ◌%◌, ◌^◌, ◌<◌, ◌≤◌, true, List, [], ◌∷◌, ◌++◌, length, get_or, take, drop, replicate, sym, refl, ap, ◌∙◌, subst, ap₂, append-nil, add-zero, add_assoc, mul-le-mul_right, suc-mul, add_comm, zero-mul, mul-div_cancel, arith, length-append, length-drop, take-append-drop, length-take, length-take-le, drop-drop, drop_at}
+use Rattle.std.proofs.Common.{◌≡◌, ℕ, zero, suc, ◌+◌, ◌-◌, ◌*◌, ◌/◌, ◌%◌, ◌<◌, ◌≤◌, true, List, [], ◌∷◌, ◌++◌, length, get_or, take, drop, replicate, sym, refl, ap, ◌∙◌, subst, ap₂, append-nil, add-zero, add_assoc, mul-le-mul_right, suc-mul, add_comm, zero-mul, mul-div_cancel, arith, length-append, length-drop, take-append-drop, length-take, length-take-le, drop-drop, drop_at}
 use Rattle.codec.specs.Bytes.{IsBytes, bytes_at, be_of}
 use Rattle.codec.specs.Records.{first_records, records_of, rmaps}
 use Rattle.codec.specs.declared.rmap.Rmap.{Rmap}

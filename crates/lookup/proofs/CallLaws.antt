@@ -1,6 +1,6 @@
 -- Laws of a call of the lookup: what it leaves, finished or refused.
 -- Assumes nothing.
-use Rattle.std.proofs.Common.{◌≡◌, ℕ, zero, suc, ◌+◌, ◌<◌, ◌≤◌, true, ◌&&◌, leb, List, [], ◌++◌, length, get_or, take, drop, replicate, sym, refl, ap, ◌∙◌, subst, arith, length-take-le, leb-true}
+use Rattle.std.proofs.Common.{◌≡◌, ℕ, zero, suc, ◌+◌, ◌<◌, ◌≤◌, true, ◌&&◌, leb, List, ◌++◌, length, get_or, take, drop, replicate, sym, refl, ap, ◌∙◌, subst, arith, length-take-le, leb-true}
 use lib.ListN.{length-replicate}
 use Rattle.codec.specs.Bytes.{with_bytes}
 use Rattle.codec.specs.Question.{Values, Outcome, done, refused}

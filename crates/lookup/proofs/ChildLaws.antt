@@ -1,6 +1,6 @@
 -- Laws of the children that a lookup keeps: where their keys lie, and how the pairs go on past those that are skipped.
 -- Assumes nothing.
-use Rattle.std.proofs.Common.{◌≡◌, ℕ, ◌+◌, ◌-◌, ◌*◌, ◌<◌, ◌≤◌, Bool, true, false, List, [], length, get_or, sym, ap, ◌∙◌, ap₂, le_refl, arith, get_or-set_other, get_or-set_same}
+use Rattle.std.proofs.Common.{◌≡◌, ℕ, ◌+◌, ◌-◌, ◌*◌, ◌<◌, ◌≤◌, Bool, true, false, List, length, get_or, sym, ap, ◌∙◌, ap₂, le_refl, arith, get_or-set_other, get_or-set_same}
 use Rattle.blocks.specs.declared.geometry.Geometry.{Geometry}
 use Rattle.blocks.specs.declared.kind.TreeKind.TheVariants as kind
 use Rattle.blocks.specs.Geometry.{geometry_ok}

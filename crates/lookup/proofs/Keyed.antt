@@ -1,6 +1,6 @@
 -- Under keys that are theirs, a tree that is skipped has no record over a number asked; so nothing is lost where such trees are skipped.
 -- Assumes nothing.
-use Rattle.std.proofs.Common.{◌≡◌, ℕ, suc, ◌+◌, ◌-◌, ◌%◌, ◌<◌, ◌≤◌, Bool, true, false, ◌&&◌, ◌||◌, leb, ◌⊎◌, List, [], ◌∷◌, ◌++◌, length, sym, refl, ap, ◌∙◌, subst, ap₂, inl, inr, append_assoc, arith, length-append}
+use Rattle.std.proofs.Common.{◌≡◌, ℕ, suc, ◌+◌, ◌%◌, ◌<◌, ◌≤◌, Bool, true, false, ◌&&◌, ◌||◌, leb, ◌⊎◌, List, [], ◌∷◌, ◌++◌, length, sym, refl, ap, ◌∙◌, subst, ap₂, inl, inr, append_assoc, arith, length-append}
 use Rattle.codec.specs.Records.{first_records, records_of, rmaps}
 use Rattle.codec.specs.Rmaps.{accepted, least}
 use Rattle.codec.specs.declared.rmap.Rmap.{Rmap}

@@ -1,8 +1,6 @@
 -- The questions of an explanation out of those of its two halves: what the search for another record answers, and what the release of the counts.
 -- Assumes nothing.
 use Rattle.std.proofs.Common.{◌≡◌, ℕ, ◌/◌, ◌<◌, ◌≤◌, Bool, true, false, cond, ◌||◌, List, [], ◌∷◌, ◌++◌, length, sym, refl, ap, ◌∙◌, arith, le-ltb, lt-ltb}
-use denote.Enum.Declared.{tag_of}
-use types.Run.{OneOf, miss}
 use Rattle.codec.specs.Question.{none, Outcome, done, refused, Question, ask, answer, map_outcome}
 use Rattle.codec.specs.Records.{records_of, bytes_of, rmaps, refcounts, free_extents}
 use Rattle.codec.specs.Accepted.{whole}
@@ -23,7 +21,6 @@ use Rattle.lists.specs.Release.{clear}
 use Rattle.lists.specs.Edits.{map_questions, Freed, freed}
 use Rattle.lists.specs.Answer.{edit_number, released_outcome, lengths_of}
 use Rattle.lists.specs.Steps.{measure_outcome}
-use Rattle.lists.specs.contracts.EditRefusal.{the_type}
 use Rattle.lists.proofs.Cases.{split, tests, over-facts}
 use Rattle.groups.proofs.Asking.{answer-refused, answer-done, extent-good}
 use Rattle.reasons.specs.declared.explain.Why.{Why}
@@ -115,12 +112,12 @@ module _ (counts : List ℕ) (x : Rmap) (b : ℕ) where
       staged-here f = rw (← e, in-counts counts i h, f) refl
 
   -- the arm of every refusal but 25
-  pub refused-other : (q : EditRefusal) → OneOf (0 ∷ 1 ∷ 2 ∷ 3 ∷ 5 ∷ 6 ∷ 7 ∷ []) (tag_of the_type q) → refused (edit_number q) none ≡ counts_answer x b (records_of refcounts counts) q
+  pub refused-other : (q : EditRefusal) → (q ≡ why.Staging → ⊥) → refused (edit_number q) none ≡ counts_answer x b (records_of refcounts counts) q
   refused-other (why.List r) k = refl
   refused-other why.Extent k = refl
   refused-other why.Overlap k = refl
   refused-other why.Missing k = refl
-  refused-other why.Staging k = absurd (miss (0 ∷ 1 ∷ 2 ∷ 3 ∷ 5 ∷ 6 ∷ 7 ∷ []) 4 tt k)
+  refused-other why.Staging k = absurd (k refl)
   refused-other why.Room k = refl
   refused-other why.Unheld k = refl
   refused-other why.Owners k = refl

@@ -1,6 +1,6 @@
 -- Laws of the first record that passes a test, by its place: that it passes, and how a loop finds it.
 -- Assumes nothing.
-use Rattle.std.proofs.Common.{◌≡◌, ℕ, zero, suc, ◌+◌, ◌-◌, ◌*◌, ◌/◌, ◌<◌, ◌≤◌, Bool, true, false, List, [], ◌∷◌, length, get_or, drop, refl, ap, ◌∙◌, add-one, arith}
+use Rattle.std.proofs.Common.{◌≡◌, ℕ, zero, suc, ◌+◌, ◌*◌, ◌/◌, ◌<◌, ◌≤◌, Bool, true, false, List, [], ◌∷◌, length, get_or, drop, refl, ap, ◌∙◌, add-one, arith}
 use lib.Seq.{drop-length}
 use Rattle.codec.specs.Bytes.{bytes_at}
 use Rattle.codec.specs.Records.{Kind, records_of}

@@ -4,7 +4,7 @@ use Rattle.std.specs.Prelude.{◌≡◌, ℕ, ◌+◌, ◌-◌, ◌^◌, ◌<◌
 use Rattle.codec.specs.declared.rmap.Rmap.{Rmap}
 use Rattle.walks.specs.declared.path.Next.{Next}
 use Rattle.walks.specs.declared.path.Next.TheVariants.{Block, Nothing}
-use Rattle.walks.specs.Walk.{Visit, visit_of, good, Shape}
+use Rattle.walks.specs.Walk.{Visit, visit_of, Shape}
 use Rattle.walks.specs.WalkCall.{stack_places}
 use Rattle.walks.specs.Path.{path_of, Opened}
 use Rattle.lookup.specs.declared.lookup.LookedUp.{LookedUp}

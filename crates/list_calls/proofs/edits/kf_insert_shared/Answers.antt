@@ -1,0 +1,9 @@
+-- `list_calls::edits::kf_insert_shared` meets its contract.
+use Rattle.interface.proofs.Saying.{says}
+use Rattle.list_calls.specs.ListCalls.{length_figures}
+use Rattle.list_calls.proofs.edits.kf_insert_shared.Goals as goal
+
+pub returns : goal.returns
+returns c =
+    let e = c.insert_shared.ensures in
+    rw (← c.extent-x.ensures) (record { answer = says length_figures c.edited_answer.ensures e.said (c.say.ensures.number, c.say.ensures.figures); wrote = e.wrote })
