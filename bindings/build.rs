@@ -1,6 +1,6 @@
 //! Says where the two archives of the library are: in the folder that
 //! KF_LIB_DIR names (where it is not absolute, from this folder), else where
-//! `rt staticlib` puts them.
+//! `tools/staticlib` puts them.
 
 use std::env;
 use std::path::PathBuf;
@@ -35,7 +35,7 @@ fn main() {
         eprintln!("This crate calls a library that the Rattle kit proves and compiles. In the");
         eprintln!("repository's folder, the one above `bindings`, run");
         eprintln!();
-        eprintln!("    rt staticlib tree_calls && rt staticlib list_calls");
+        eprintln!("    tools/staticlib");
         eprintln!();
         eprintln!("which writes both archives to target/staticlib. Where they are in another");
         eprintln!("folder, let the environment variable KF_LIB_DIR name it.");

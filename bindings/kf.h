@@ -1,5 +1,5 @@
 /* The C interface of the group trees. Link target/staticlib/libtree_calls.a and target/staticlib/liblist_calls.a, made by
- * `rt staticlib tree_calls` and `rt staticlib list_calls`. Both need one function of the C library, memset. bindings/examples/let_go.c is an
+ * `tools/staticlib`. Both need one function of the C library, memset. bindings/examples/let_go.c is an
  * example.
  *
  * A slice passes as a pointer and the number of its elements. Every call but the two of CRC32C answers KF_DONE where it was done, else the

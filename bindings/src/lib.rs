@@ -13,9 +13,9 @@
 //!
 //! # Building
 //!
-//! In the repository's folder `rt staticlib tree_calls` and `rt staticlib
-//! list_calls` prove the library and write `libtree_calls.a` and
-//! `liblist_calls.a` to `target/staticlib`. Then, in this folder,
+//! In the repository's folder `tools/staticlib` proves the library and writes
+//! `libtree_calls.a` and `liblist_calls.a` to `target/staticlib`. Then, in this
+//! folder,
 //!
 //! ```sh
 //! cargo test

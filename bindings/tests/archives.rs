@@ -24,7 +24,7 @@ fn missing_archives_are_told_in_words() {
     for words in [
         "libtree_calls.a is not there",
         "liblist_calls.a is not there",
-        "rt staticlib tree_calls && rt staticlib list_calls",
+        "tools/staticlib",
         "KF_LIB_DIR",
     ] {
         assert!(said.contains(words), "`{words}` is not in:\n{said}");

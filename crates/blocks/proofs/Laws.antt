@@ -236,14 +236,14 @@ module _ (kind : TreeKind) (version level len : ℕ) where
 
 -- a block of a good geometry has room for its header, and for 10 to 8,192 places
 module _ (g : Geometry) (kind : TreeKind) (level : ℕ) (ok : geometry_ok g ≡ true) where
-  pub header-fits : header_len g.version ≤ g.blocksize
-  header-fits = omega (arith, header-most g.version, (blocksize-within g ok).0)
+  pub header_fits : header_len g.version ≤ g.blocksize
+  header_fits = omega (arith, header-most g.version, (blocksize-within g ok).0)
 
   pub capacity-some : 10 ≤ capacity kind g.version level g.blocksize
   capacity-some = capacity-least kind g.version level g.blocksize 10 (omega (arith, header-most g.version, (blocksize-within g ok).0))
 
   pub capacity-small : capacity kind g.version level g.blocksize ≤ 8192
-  capacity-small = omega (arith, capacity-most kind g.version level g.blocksize header-fits, (blocksize-within g ok).1)
+  capacity-small = omega (arith, capacity-most kind g.version level g.blocksize header_fits, (blocksize-within g ok).1)
 
 -- ---- two lists compared from the front
 

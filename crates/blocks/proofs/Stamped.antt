@@ -64,22 +64,22 @@ module _ (g : Geometry) (kind : TreeKind) (block level numrecs left right : ℕ)
 
   lsn-read : be_of (bytes_at (p ++ identity_head g block ++ t) lsn_at 8) ≡ g.last_lsn
   unfolding bytes_at be_bytes
-  lsn-read = be_of-be_bytes-lt 8 g.last_lsn fits.lsn-fits
+  lsn-read = be_of-be_bytes-lt 8 g.last_lsn fits.lsn_fits
 
   uuid-read : bytes_at (p ++ identity_head g block ++ t) uuid_at 16 ≡ g.meta_uuid
   unfolding bytes_at be_bytes
   uuid-read =
-      ap (take 16) (append_assoc g.meta_uuid (be_bytes 4 g.agno) t) ∙ take_at g.meta_uuid (be_bytes 4 g.agno ++ t) 16 fits.uuid-long
+      ap (take 16) (append_assoc g.meta_uuid (be_bytes 4 g.agno) t) ∙ take_at g.meta_uuid (be_bytes 4 g.agno ++ t) 16 fits.uuid_long
 
   owner-read : be_of (bytes_at (p ++ identity_head g block ++ t) owner_at 4) ≡ g.agno
   unfolding be_bytes
   owner-read =
       let x : List ℕ = be_bytes 8 (address_of g (linear_of g block)) ++ be_bytes 8 g.last_lsn ++ g.meta_uuid in
       let q : List ℕ = p ++ x in
-      let e : length q ≡ owner_at = simp length-append (omega (arith, fits.uuid-long)) in
+      let e : length q ≡ owner_at = simp length-append (omega (arith, fits.uuid_long)) in
       ap (λ (l : List ℕ). be_of (bytes_at l owner_at 4)) (ap (λ (l : List ℕ). l ++ t) (sym (append_assoc p x (be_bytes 4 g.agno))) ∙ append_assoc q (be_bytes 4 g.agno) t)
       ∙ ap be_of (bytes_at-past q (be_bytes 4 g.agno ++ t) owner_at 4 e)
-      ∙ be_of-be_bytes-lt 4 g.agno fits.agno-fits
+      ∙ be_of-be_bytes-lt 4 g.agno fits.agno_fits
 
 -- ---- a block with its check
 
@@ -202,7 +202,7 @@ module _
           IsBytes-append (be_bytes 8 address ++ be_bytes 8 g.last_lsn ++ g.meta_uuid) (be_bytes 4 g.agno)
           (IsBytes-append (be_bytes 8 address ++ be_bytes 8 g.last_lsn) g.meta_uuid
           (IsBytes-append (be_bytes 8 address) (be_bytes 8 g.last_lsn) (IsBytes-be_bytes 8 address) (IsBytes-be_bytes 8 g.last_lsn))
-          fits.uuid-bytes)
+          fits.uuid_bytes)
           (IsBytes-be_bytes 4 g.agno)
 
       module _ (bytes : IsBytes b) where
@@ -218,8 +218,8 @@ module _
         -- a stamped block passes the check, with the records and siblings that it was stamped with
         module _
             (ok : geometry_ok g ≡ true) (tree : has_tree kind g.version ≡ true)
-            (number : block < 2 ^ 32) (level-fits : level < 2 ^ 16) (records-fit : numrecs < 2 ^ 16)
-            (left-fits : left < 2 ^ 32) (right-fits : right < 2 ^ 32)
+            (number : block < 2 ^ 32) (level_fits : level < 2 ^ 16) (records-fit : numrecs < 2 ^ 16)
+            (left_fits : left < 2 ^ 32) (right_fits : right < 2 ^ 32)
             (room : numrecs ≤ capacity kind g.version level (length b))
           where
             on-4 : eqb g.version 5 ≡ false → check_block g kind block level (with_bytes b 0 front) ≡ done (header_says g kind level numrecs left right (length b))
@@ -228,10 +228,10 @@ module _
                 let d : List ℕ = drop (0 + length front) b in
                 passes-4 g kind block level numrecs left right (length b) (front ++ d) ok tree (length-with_bytes b 0 front front_fits) long room
                 (magic-read kind g.version level numrecs left right d)
-                (level-read kind g.version level numrecs left right d level-fits)
+                (level-read kind g.version level numrecs left right d level_fits)
                 (records-read kind g.version level numrecs left right d records-fit)
-                (left-read kind g.version level numrecs left right d left-fits)
-                (right-read kind g.version level numrecs left right d right-fits)
+                (left-read kind g.version level numrecs left right d left_fits)
+                (right-read kind g.version level numrecs left right d right_fits)
                 v
 
             on-5 : eqb g.version 5 ≡ true → check_block g kind block level (with_crc (with_bytes b 0 whole)) ≡ done (header_says g kind level numrecs left right (length b))
@@ -247,10 +247,10 @@ module _
                 let is_plain : with_crc h ≡ front ++ (i ++ t) = is ∙ append_assoc front i t in
                 passes-5 g kind block level numrecs left right (length b) (with_crc h) ok tree (with_crc-length h (head-long v) ∙ length-5 v) long room
                 (ap (λ (l : List ℕ). be_of (bytes_at l magic_at 4)) is_plain ∙ magic-read kind g.version level numrecs left right (i ++ t))
-                (ap (λ (l : List ℕ). be_of (bytes_at l level_at 2)) is_plain ∙ level-read kind g.version level numrecs left right (i ++ t) level-fits)
+                (ap (λ (l : List ℕ). be_of (bytes_at l level_at 2)) is_plain ∙ level-read kind g.version level numrecs left right (i ++ t) level_fits)
                 (ap (λ (l : List ℕ). be_of (bytes_at l numrecs_at 2)) is_plain ∙ records-read kind g.version level numrecs left right (i ++ t) records-fit)
-                (ap leftsib_in is_plain ∙ left-read kind g.version level numrecs left right (i ++ t) left-fits)
-                (ap rightsib_in is_plain ∙ right-read kind g.version level numrecs left right (i ++ t) right-fits)
+                (ap leftsib_in is_plain ∙ left-read kind g.version level numrecs left right (i ++ t) left_fits)
+                (ap rightsib_in is_plain ∙ right-read kind g.version level numrecs left right (i ++ t) right_fits)
                 v
                 (crc-read h (head-long v) head_bytes)
                 (ap (λ (l : List ℕ). bytes_at l uuid_at 16) is ∙ uuid-read g kind block level numrecs left right t fits)
@@ -268,18 +268,18 @@ module _
     (fits : Fits g) (long : header_len g.version ≤ length b)
   where
     pub stamped-body : (n : ℕ) → header_len g.version ≤ n → drop n (stamped g kind block level numrecs left right b) ≡ drop n b
-    stamped-body = body_kept g kind block level numrecs left right b fits.uuid-long long
+    stamped-body = body_kept g kind block level numrecs left right b fits.uuid_long long
 
     module _ (bytes : IsBytes b) where
       pub stamped-bytes : IsBytes (stamped g kind block level numrecs left right b)
-      stamped-bytes = bytes-kept g kind block level numrecs left right b fits.uuid-long long fits bytes
+      stamped-bytes = bytes-kept g kind block level numrecs left right b fits.uuid_long long fits bytes
 
       module _
           (ok : geometry_ok g ≡ true) (tree : has_tree kind g.version ≡ true)
-          (number : block < 2 ^ 32) (level-fits : level < 2 ^ 16) (records-fit : numrecs < 2 ^ 16)
-          (left-fits : left < 2 ^ 32) (right-fits : right < 2 ^ 32)
+          (number : block < 2 ^ 32) (level_fits : level < 2 ^ 16) (records-fit : numrecs < 2 ^ 16)
+          (left_fits : left < 2 ^ 32) (right_fits : right < 2 ^ 32)
           (room : numrecs ≤ capacity kind g.version level (length b))
         where
           pub stamped-passes : check_block g kind block level (stamped g kind block level numrecs left right b) ≡ done (header_says g kind level numrecs left right (length b))
           stamped-passes =
-              passes g kind block level numrecs left right b fits.uuid-long long fits bytes ok tree number level-fits records-fit left-fits right-fits room
+              passes g kind block level numrecs left right b fits.uuid_long long fits bytes ok tree number level_fits records-fit left_fits right_fits room

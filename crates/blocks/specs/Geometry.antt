@@ -35,11 +35,11 @@ geometry_ok g =
 
 -- the widths of the fields, which every geometry in memory has
 pub record Fits (g : Geometry) : Type 0 where
-  pub agno-fits : g.agno < 2 ^ 32
-  pub agblocks-fits : g.agblocks < 2 ^ 32
-  pub uuid-long : length g.meta_uuid ≡ 16
-  pub uuid-bytes : IsBytes g.meta_uuid
-  pub lsn-fits : g.last_lsn < 2 ^ 64
+  pub agno_fits : g.agno < 2 ^ 32
+  pub agblocks_fits : g.agblocks < 2 ^ 32
+  pub uuid_long : length g.meta_uuid ≡ 16
+  pub uuid_bytes : IsBytes g.meta_uuid
+  pub lsn_fits : g.last_lsn < 2 ^ 64
 
 -- the same group, where the volume's log has come to another sequence number
 abbrev pub with_lsn : Geometry → ℕ → Geometry

@@ -94,8 +94,8 @@ unfolding walk.visits walk.records walk.at_level walk.by_level report_of bytes.w
 calls-read =
     every-textbook-call g kind.ByBlock image 1 2 (replicate 18 7) (replicate 18 0) three three (replicate 16 7) (omega arith)
     (Read 3 2 16) (Read 3 2 16) (replicate 3 0) (replicate 3 0) (0 ∷ 0 ∷ 1 ∷ []) (0 ∷ 0 ∷ 1 ∷ []) (extent ++ extent) (extent ++ extent)
-    (rw book-reads (record { answer = refl; stack_is = refl; scratch-is = refl; blocks-are = refl; records-are = refl }))
-    (rw stack-reads (record { answer = refl; stack_is = refl; scratch-is = refl; blocks-are = refl; records-are = refl }))
+    (rw book-reads (record { answer = refl; stack_is = refl; scratch_is = refl; blocks_are = refl; records_are = refl }))
+    (rw stack-reads (record { answer = refl; stack_is = refl; scratch_is = refl; blocks_are = refl; records_are = refl }))
 
 -- both are refused by 15 after three visits, and leave zeros
 calls-cut : Alike (Refused why.Full 3) (Refused why.Full 3) (replicate 3 0) (replicate 3 0) (replicate 3 0) (replicate 3 0) (replicate 15 0) (replicate 15 0)
@@ -103,5 +103,5 @@ unfolding walk.visits walk.records report_of
 calls-cut =
     every-textbook-call g kind.ByBlock image 1 2 (replicate 18 7) (replicate 18 0) three three (replicate 15 7) (omega arith)
     (Refused why.Full 3) (Refused why.Full 3) (replicate 3 0) (replicate 3 0) (replicate 3 0) (replicate 3 0) (replicate 15 0) (replicate 15 0)
-    (rw book-cut (record { answer = refl; stack_is = refl; scratch-is = refl; blocks-are = refl; records-are = refl }))
-    (rw stack-cut (record { answer = refl; stack_is = refl; scratch-is = refl; blocks-are = refl; records-are = refl }))
+    (rw book-cut (record { answer = refl; stack_is = refl; scratch_is = refl; blocks_are = refl; records_are = refl }))
+    (rw stack-cut (record { answer = refl; stack_is = refl; scratch_is = refl; blocks_are = refl; records_are = refl }))

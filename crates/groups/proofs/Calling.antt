@@ -67,8 +67,8 @@ both-new : (n : Sizes) (map counts free : Buffer) (g : NewLists)
 both-new n map counts free g p =
     let e : done n ≡ sizes_of (done g) = p.said in
     let q : n ≡ sizes g = cc in (
-      ap₂ lists_of (front-is rmaps map g.map n.map (ap (λ (s : Sizes). s.map) q) p.map_is) (front-is refcounts counts g.counts n.counts (ap (λ (s : Sizes). s.counts) q) p.counts-are),
-      front-is free_extents free g.free n.free (ap (λ (s : Sizes). s.free) q) p.free-are,
+      ap₂ lists_of (front-is rmaps map g.map n.map (ap (λ (s : Sizes). s.map) q) p.map_is) (front-is refcounts counts g.counts n.counts (ap (λ (s : Sizes). s.counts) q) p.counts_are),
+      front-is free_extents free g.free n.free (ap (λ (s : Sizes). s.free) q) p.free_are,
     )
 
 -- nothing was lent for free extents
@@ -160,8 +160,8 @@ unfolding none_held insert_outcome take_held_outcome let_go_outcome bytes-in.be_
 all-promised = (
   record { said = refl; wrote = refl },
   (
-    record { said = refl; map_is = refl; counts-are = refl; free-are = refl },
-    (record { said = refl; map_is = refl; counts-are = refl; free-are = refl }, tt),
+    record { said = refl; map_is = refl; counts_are = refl; free_are = refl },
+    (record { said = refl; map_is = refl; counts_are = refl; free_are = refl }, tt),
   ),
 )
 

@@ -99,12 +99,12 @@ none-accepted : Accepted none_held
 unfolding none_held records.records_of records.first_records accepted.whole accepted.in_order
 none-accepted =
     record {
-      map-bytes = λ i. omega arith;
-      counts-bytes = λ i. omega arith;
+      map_bytes = λ i. omega arith;
+      counts_bytes = λ i. omega arith;
       map_whole = refl;
-      map-order = refl;
+      map_order = refl;
       counts_whole = refl;
-      counts-order = refl;
+      counts_order = refl;
     }
 
 none-agree : Agreeing none_held

@@ -55,7 +55,7 @@ kept_then σ τ ρ t g t' g' h k =
 
 -- the counts as facts
 counts-facts : (σ : Lists) → Accepted σ → C.Accepted (records_of refcounts σ.counts)
-counts-facts σ h = C.accepted-facts (records_of refcounts σ.counts) (storable-records_of refcounts refcounts-lawful σ.counts h.counts-bytes) h.counts-order
+counts-facts σ h = C.accepted-facts (records_of refcounts σ.counts) (storable-records_of refcounts refcounts-lawful σ.counts h.counts_bytes) h.counts_order
 
 map_back : (m : List Rmap) → AllStorable rmaps m → records_of rmaps (bytes_of rmaps m) ≡ m
 map_back = records_of-bytes_of rmaps rmaps-lawful
@@ -68,12 +68,12 @@ accepted-lists : (m : List Rmap) (c : List Refcount) → AllStorable rmaps m →
     → Accepted (record { map = bytes_of rmaps m; counts = bytes_of refcounts c })
 accepted-lists m c sm sc am ac =
     record {
-      map-bytes = IsBytes-bytes_of rmaps rmaps-lawful m;
-      counts-bytes = IsBytes-bytes_of refcounts refcounts-lawful c;
+      map_bytes = IsBytes-bytes_of rmaps rmaps-lawful m;
+      counts_bytes = IsBytes-bytes_of refcounts refcounts-lawful c;
       map_whole = whole-bytes_of rmaps rmaps-lawful m;
-      map-order = rw (map_back m sm) am;
+      map_order = rw (map_back m sm) am;
       counts_whole = whole-bytes_of refcounts refcounts-lawful c;
-      counts-order = rw (counts-back c sc) ac;
+      counts_order = rw (counts-back c sc) ac;
     }
 
 -- ---- a take, by any edit that adds one over the extent
@@ -86,12 +86,12 @@ kept-take σ x m h a t f =
     record {
       accepted =
           record {
-            map-bytes = IsBytes-bytes_of rmaps rmaps-lawful m;
-            counts-bytes = h.counts-bytes;
+            map_bytes = IsBytes-bytes_of rmaps rmaps-lawful m;
+            counts_bytes = h.counts_bytes;
             map_whole = whole-bytes_of rmaps rmaps-lawful m;
-            map-order = rw q t.accepted;
+            map_order = rw q t.accepted;
             counts_whole = h.counts_whole;
-            counts-order = h.counts-order;
+            counts_order = h.counts_order;
           };
       agree =
           rw q
@@ -108,7 +108,7 @@ kept-take_held : (σ : Lists) (x : Rmap) (room counts_room : ℕ) (g : NewLists)
 kept-take_held σ x room counts_room g h a f e =
     let m : List Rmap = records_of rmaps σ.map in
     let c : List Refcount = records_of refcounts σ.counts in
-    let w = take_held-law σ.map σ.counts x room counts_room g h.map-bytes h.counts-bytes f e in
+    let w = take_held-law σ.map σ.counts x room counts_room g h.map_bytes h.counts_bytes f e in
     let p = w.map-after in
     let l = w.counts-after in
     let q : records_of rmaps (bytes_of rmaps g.map) ≡ g.map = map_back g.map p.stored in
@@ -119,7 +119,7 @@ kept-take_held σ x room counts_room g h a f e =
           rw (q, r)
           (agree-raise m g.map c x.startblock x.blockcount (counts-facts σ h) a g.counts
           (C.accepted-facts g.counts l.stored l.accepted) l.owned p.held w.all_held);
-      staging = λ b. rw r ((take_held-settles σ.map σ.counts x h.counts-bytes room counts_room g e).staging b);
+      staging = λ b. rw r ((take_held-settles σ.map σ.counts x h.counts_bytes room counts_room g e).staging b);
       sum = λ b. rw q (omega (arith, p.held b));
     }
 
@@ -132,7 +132,7 @@ kept-let_go : (σ : Lists) (x : Rmap) (room counts_room free_room : ℕ) (g : Ne
 kept-let_go σ x room counts_room free_room g h a e =
     let m : List Rmap = records_of rmaps σ.map in
     let c : List Refcount = records_of refcounts σ.counts in
-    let w = let_go-law σ.map σ.counts x room counts_room free_room g h.map-bytes h.counts-bytes e in
+    let w = let_go-law σ.map σ.counts x room counts_room free_room g h.map_bytes h.counts_bytes e in
     let p = w.map-after in
     let l = w.counts-after in
     let q : records_of rmaps (bytes_of rmaps g.map) ≡ g.map = map_back g.map p.stored in
@@ -144,7 +144,7 @@ kept-let_go σ x room counts_room free_room g h a e =
             rw (q, r)
             (agree-let_go m g.map c x.startblock x.blockcount ok a g.counts
             (C.accepted-facts g.counts l.stored l.accepted) l.owned p.held);
-        staging = λ b. rw r ((let_go-settles σ.map σ.counts x h.counts-bytes room counts_room free_room g e).staging b);
+        staging = λ b. rw r ((let_go-settles σ.map σ.counts x h.counts_bytes room counts_room free_room g e).staging b);
         sum = λ b. rw q (omega (arith, p.held b));
       },
       rw q (w.free-is ∙ unshared-unheld m g.map c x.startblock x.blockcount ok a p.held),
@@ -164,7 +164,7 @@ from-done f (refused n v) w e = absurd (never e)
 took-kept : (σ : Lists) (x : Rmap) (room : ℕ) (o : Outcome (List Rmap)) → Accepted σ → Agreeing σ → RmapFits x → insert_outcome σ.map x room ≡ o
     → Kept σ (covered (map_outcome (took σ) o) x) (λ b. 0) (after σ (map_outcome (took σ) o))
 unfolding covered after
-took-kept σ x room (done m) h a f e = kept-take σ x m h a (insert-law σ.map x room m h.map-bytes f e) (insert-unheld σ.map x room m e)
+took-kept σ x room (done m) h a f e = kept-take σ x m h a (insert-law σ.map x room m h.map_bytes f e) (insert-unheld σ.map x room m e)
 took-kept σ x room (refused n v) h a f e = kept_same σ h a
 
 held_kept : (σ : Lists) (x : Rmap) (room counts_room : ℕ) (o : Outcome NewLists) → Accepted σ → Agreeing σ → RmapFits x
@@ -234,8 +234,8 @@ history σ cs s =
       offers =
           λ before x room counts_room free_room h w e. let p = kept_run σ before s.accepted s.agree in
           step-offers (run σ before) x room counts_room free_room p.accepted p.agree w e;
-      map-returned = returned kind.Rmap (run σ cs).map k.accepted.map-bytes k.accepted.map_whole k.accepted.map-order;
-      counts-returned = returned kind.Refcount (run σ cs).counts k.accepted.counts-bytes k.accepted.counts_whole k.accepted.counts-order;
+      map_returned = returned kind.Rmap (run σ cs).map k.accepted.map_bytes k.accepted.map_whole k.accepted.map_order;
+      counts_returned = returned kind.Refcount (run σ cs).counts k.accepted.counts_bytes k.accepted.counts_whole k.accepted.counts_order;
     }
 
 -- and so of the history with shared blocks

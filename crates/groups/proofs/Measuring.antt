@@ -43,7 +43,7 @@ module _ (qs : List Question) (g : NewLists) (map counts free : List ℕ) where
   refuses : (q : EditRefusal) → outcome ≡ refused (edit_number q) none → GroupEditIs outcome (Refused q) map map counts counts free free
   unfolding written
   refuses q e =
-      by-outcome (refused (edit_number q) none) e (Refused q) map counts free (record { said = refl; map_is = refl; counts-are = refl; free-are = refl })
+      by-outcome (refused (edit_number q) none) e (Refused q) map counts free (record { said = refl; map_is = refl; counts_are = refl; free_are = refl })
 
   pub tells-refused : (q : EditRefusal) → answer qs (done g) ≡ refused (edit_number q) none
       → GroupEditIs outcome (Refused q) map map counts counts free free
@@ -97,6 +97,6 @@ module _ {qs : List Question} {g : NewLists} {l : List Rmap} (map counts free : 
         (record {
           said = ap done h.measured;
           map_is = a ∙ ap (λ (k : List Rmap). with_bytes map 0 (bytes_of rmaps k)) h.list;
-          counts-are = b;
-          free-are = c;
+          counts_are = b;
+          free_are = c;
         })

@@ -35,7 +35,7 @@ module _ (kind : TreeKind) (list : List ℕ) (small : IsBytes list) (length-ok :
   unfolding build_outcome
   built g numbers image room lent s =
       let plan : ℕ = sum (plan_of (shape_of g kind) list) in
-      let r : plan * g.blocksize ≤ room = rw (← s.planned) s.room-left in
+      let r : plan * g.blocksize ≤ room = rw (← s.planned) s.room_left in
       simp (
         s.geometry,
         has-tree kind g.version s.version,

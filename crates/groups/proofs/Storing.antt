@@ -39,7 +39,7 @@ zero-fits zero = omega arith
 zero-fits (suc i) = omega arith
 
 geometry-fits : Fits geometry
-geometry-fits = record { agno-fits = omega arith; agblocks-fits = omega arith; uuid-long = refl; uuid-bytes = IsBytes-zeros 16; lsn-fits = omega arith }
+geometry-fits = record { agno_fits = omega arith; agblocks_fits = omega arith; uuid_long = refl; uuid_bytes = IsBytes-zeros 16; lsn_fits = omega arith }
 
 image-length : length image ≡ 512
 image-length = refl
@@ -61,7 +61,7 @@ one_block kind list lent e f h =
       planned = f;
       places = (omega (arith, image-length), tt, tt);
       limit = omega arith;
-      room-left = omega arith;
+      room_left = omega arith;
       long = h;
     }
 
@@ -76,7 +76,7 @@ map-stored =
 -- what was built with 5 comes back under 5 and every higher number
 pub map_back : Back kind.Rmap last_lists.map geometry (0 ∷ []) image 512 map_lent
 map_back =
-    subst (λ (τ : Lists). Returned kind.Rmap τ.map) shares.left sharing-claim.map-returned geometry (0 ∷ []) image 512 map_lent map-stored
+    subst (λ (τ : Lists). Returned kind.Rmap τ.map) shares.left sharing-claim.map_returned geometry (0 ∷ []) image 512 map_lent map-stored
 
 abbrev counts_lent : Lent
 counts_lent = record { stack = 18; scratch = 1; blocks = 1; bytes = 0 }
@@ -89,7 +89,7 @@ counts-stored =
 
 pub counts-back : Back kind.Refcount [] geometry (0 ∷ []) image 512 counts_lent
 counts-back =
-    subst (λ (τ : Lists). Returned kind.Refcount τ.counts) shares.left sharing-claim.counts-returned geometry (0 ∷ []) image 512 counts_lent counts-stored
+    subst (λ (τ : Lists). Returned kind.Refcount τ.counts) shares.left sharing-claim.counts_returned geometry (0 ∷ []) image 512 counts_lent counts-stored
 
 -- and so under 7
 pub later-back : trip.Returned (with_lsn geometry 7) kind.Rmap last_lists.map (0 ∷ []) (stored 512 image (0 ∷ []) (built_bytes geometry kind.Rmap last_lists.map (0 ∷ []))) map_lent

@@ -43,8 +43,8 @@ free_of o = map_outcome (λ g. g.free) o
 pub record GroupEditIs (o : Outcome NewLists) (r : GroupEdited) (map map' counts counts' free free' : List ℕ) : Type 0 where
   pub said : group_edited_outcome r ≡ sizes_of o
   pub map_is : map' ≡ written rmaps map (map_of o)
-  pub counts-are : counts' ≡ written refcounts counts (counts_of o)
-  pub free-are : free' ≡ written free_extents free (free_of o)
+  pub counts_are : counts' ≡ written refcounts counts (counts_of o)
+  pub free_are : free' ≡ written free_extents free (free_of o)
 
 abbrev pub LetsGo : (map counts : List ℕ) → Rmap → GroupEdited → (kept kept' lowered lowered' free free' : List ℕ) → Type 0
 LetsGo map counts x r kept kept' lowered lowered' free free' =

@@ -62,12 +62,12 @@ pub record Lists : Type 0 where
 
 -- an accepted reverse map passes 19 and 20, accepted counts 19 and 21
 pub record Accepted (σ : Lists) : Type 0 where
-  pub map-bytes : IsBytes σ.map
-  pub counts-bytes : IsBytes σ.counts
+  pub map_bytes : IsBytes σ.map
+  pub counts_bytes : IsBytes σ.counts
   pub map_whole : whole rmaps.size σ.map ≡ true
-  pub map-order : rmap.accepted (records_of rmaps σ.map) ≡ true
+  pub map_order : rmap.accepted (records_of rmaps σ.map) ≡ true
   pub counts_whole : whole refcounts.size σ.counts ≡ true
-  pub counts-order : refcount.accepted (records_of refcounts σ.counts) ≡ true
+  pub counts_order : refcount.accepted (records_of refcounts σ.counts) ≡ true
 
 abbrev pub Agreeing : Lists → Type 0
 Agreeing σ = Agree (records_of rmaps σ.map) (records_of refcounts σ.counts)
@@ -159,7 +159,7 @@ pub record Stored (kind : TreeKind) (list : List ℕ) (g : Geometry) (numbers im
   pub planned : length numbers ≡ sum (plan_of (shape_of g kind) list)
   pub places : Places g.blocksize (length image) numbers
   pub limit : length numbers ≤ max g.agblocks 64
-  pub room-left : length numbers * g.blocksize ≤ room
+  pub room_left : length numbers * g.blocksize ≤ room
   pub long : trip.LongEnough list numbers lent
 
 -- build accepts it, and the walk of the image, whatever else that holds, from the last block over the planned levels, under the sequence number that it
@@ -200,8 +200,8 @@ pub record Claim (σ : Lists) (cs : List Change) : Type 0 where
       → (w : Left) → step (run σ before) (let_go x room counts_room free_room) ≡ done w
       → Longest (λ b. eqb (held w.lists b) 0) x.startblock x.blockcount w.free
   -- each of the two, built and stored, is returned by the walk
-  pub map-returned : Returned kind.Rmap (run σ cs).map
-  pub counts-returned : Returned kind.Refcount (run σ cs).counts
+  pub map_returned : Returned kind.Rmap (run σ cs).map
+  pub counts_returned : Returned kind.Refcount (run σ cs).counts
 
 -- every history from such a start comes out so
 abbrev pub EveryHistory : Type 0

@@ -40,7 +40,7 @@ never-26 =
       lets_go =
           λ map counts x r said kept kept' lowered lowered' free free' bytes p m l f. answer-not _ _ r p.answer.number
           (let-go-roomy map counts x bytes (length kept) (length lowered) (length free) m l f);
-      takes-held =
+      takes_held =
           λ map counts x r said taken taken' raised raised' bytes p m l. answer-not _ _ r p.answer.number
           (take-held-roomy map counts x bytes (length taken) (length raised) m l);
     }
@@ -66,7 +66,7 @@ free = bytes_of free_extents (record { startblock = 0; blockcount = 2 } ∷ reco
 -- 0/6 of owner 7 let go, with room for three records, three counts and two free extents
 pub said-so : GroupEditSays (let_go_outcome map counts (mapping 0 6 7) 72 36 16) 0 (24 ∷ 0 ∷ 16 ∷ 0 ∷ []) (replicate 72 0) (kept ++ replicate 48 0) (replicate 36 0) (replicate 36 0) (replicate 16 0) free
 unfolding let_go_outcome written with_bytes bytes.be_of bytes.be_bytes records.fields_of records.field_bytes records.first_records records.records_of records.bytes_of accepted.whole accepted.in_order rmap.reserved rmap.mapping rmap.exempt rmap.good rmap.key_offset rmap.before rmap.follows refcount.staging refcount.good refcount.follows blocks.over blocks.within blocks.grow blocks.runs edits.first edits.is_some edits.replace edits.place edits.contains edits.lines_up edits.chosen edits.front edits.later edits.place_later edits.cut_out lower.owners lower.clear lower.piece lower.share lower.fewer lower.clamp lower.lowered lower.lower_all lower.same_kind lower.continues lower.join_from lower.join_all
-said-so = record { answer = record { number = refl; figures = refl }; map_is = refl; counts-are = refl; free-are = refl }
+said-so = record { answer = record { number = refl; figures = refl }; map_is = refl; counts_are = refl; free_are = refl }
 
 free-room : free_room counts 0 6 ≤ 16
 unfolding bytes.be_of bytes.be_bytes records.fields_of records.field_bytes records.first_records records.records_of records.bytes_of refcount.staging met

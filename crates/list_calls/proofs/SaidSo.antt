@@ -100,7 +100,7 @@ module _ (map counts : List ℕ) (x : Rmap) (b r : ℕ) (said kept kept' lowered
         let held : AllHold asks × (left ≡ g) = done-means asks left g e in
         let n : get_or said 2 0 ≡ length (bytes_of free_extents g.free) =
         ap (λ (l : List ℕ). get_or l 2 0) (p.answer.figures ∙ ap (λ (q : Outcome NewLists). figures_of group_figures (sizes_of q)) e) in
-        let f : free' ≡ written free_extents free (done g.free) = p.free-are ∙ ap (λ (q : Outcome NewLists). written free_extents free (free_of q)) e in
+        let f : free' ≡ written free_extents free (done g.free) = p.free_are ∙ ap (λ (q : Outcome NewLists). written free_extents free (free_of q)) e in
         let same : left.free ≡ g.free = ap (λ (h : NewLists). h.free) held.1 in
         rw (n, f, written-front free_extents free g.free)
         (rw (← same) (records_of-bytes_of free_extents free_extents-lawful left.free
@@ -111,11 +111,11 @@ module _ (map counts : List ℕ) (x : Rmap) (b r : ℕ) (said kept kept' lowered
     answers-so t (inr (g, e, l)) = inr (p.answer.number ∙ ap (λ (q : Outcome NewLists). number_of (sizes_of q)) e, rw (read_back g e) l)
 
     by-cause : (w : Why) → Answers w b o → SaidSo (get_or (explain_figures w) 0 0) b r said free'
-    by-cause Free a = record { free-now = λ e. answers-so true a; still-held = λ e. absurd (omega arith); staging = λ e. absurd (omega arith) }
-    by-cause (HeldInMap i) a = record { free-now = λ e. absurd (omega arith); still-held = λ e. answers-so false a; staging = λ e. absurd (omega arith) }
-    by-cause (HeldInCounts i) a = record { free-now = λ e. absurd (omega arith); still-held = λ e. answers-so false a; staging = λ e. absurd (omega arith) }
+    by-cause Free a = record { free_now = λ e. answers-so true a; still_held = λ e. absurd (omega arith); staging = λ e. absurd (omega arith) }
+    by-cause (HeldInMap i) a = record { free_now = λ e. absurd (omega arith); still_held = λ e. answers-so false a; staging = λ e. absurd (omega arith) }
+    by-cause (HeldInCounts i) a = record { free_now = λ e. absurd (omega arith); still_held = λ e. answers-so false a; staging = λ e. absurd (omega arith) }
     by-cause (Staging i) a =
-        record { free-now = λ e. absurd (omega arith); still-held = λ e. absurd (omega arith); staging = λ e. p.answer.number ∙ ap (λ (q : Outcome NewLists). number_of (sizes_of q)) a }
+        record { free_now = λ e. absurd (omega arith); still_held = λ e. absurd (omega arith); staging = λ e. p.answer.number ∙ ap (λ (q : Outcome NewLists). number_of (sizes_of q)) a }
 
 pub every-said-so : EverySaidSo
 every-said-so map counts x b said s r figures kept kept' lowered lowered' free free' p =
@@ -142,7 +142,7 @@ names-two = every-named rooms.map rooms.counts (rooms.mapping 0 6 7) 2 (1 ∷ 1 
 keeps-two : (◌≡◌ {A = ℕ} 0 26) ⊎ ((◌≡◌ {A = ℕ} 0 0) × (lies (free_written (24 ∷ 0 ∷ 16 ∷ 0 ∷ []) rooms.free) 2 ≡ false))
 keeps-two =
     (every-said-so rooms.map rooms.counts (rooms.mapping 0 6 7) 2 (1 ∷ 1 ∷ 24 ∷ 24 ∷ []) says_two 0 (24 ∷ 0 ∷ 16 ∷ 0 ∷ []) (replicate 72 0) (rooms.kept ++ replicate 48 0) (replicate 36 0)
-    (replicate 36 0) (replicate 16 0) rooms.free rooms.said-so).still-held refl
+    (replicate 36 0) (replicate 16 0) rooms.free rooms.said-so).still_held refl
 
 -- and block 0 is free now, and is among them
 explains-zero : explain_outcome rooms.map rooms.counts (rooms.mapping 0 6 7) 0 ≡ done Free
@@ -152,4 +152,4 @@ explains-zero = refl
 frees-zero : (◌≡◌ {A = ℕ} 0 26) ⊎ ((◌≡◌ {A = ℕ} 0 0) × (lies (free_written (24 ∷ 0 ∷ 16 ∷ 0 ∷ []) rooms.free) 0 ≡ true))
 frees-zero =
     (every-said-so rooms.map rooms.counts (rooms.mapping 0 6 7) 0 (0 ∷ 0 ∷ 0 ∷ 0 ∷ []) (record { number = rw explains-zero refl; figures = rw explains-zero refl }) 0 (24 ∷ 0 ∷ 16 ∷ 0 ∷ [])
-    (replicate 72 0) (rooms.kept ++ replicate 48 0) (replicate 36 0) (replicate 36 0) (replicate 16 0) rooms.free rooms.said-so).free-now refl
+    (replicate 72 0) (rooms.kept ++ replicate 48 0) (replicate 36 0) (replicate 36 0) (replicate 16 0) rooms.free rooms.said-so).free_now refl

@@ -19,9 +19,9 @@ free_written said free = records_of free_extents (take (get_or said 2 0) free)
 -- `state` is what was said of block b; kf_let_go answered r, said these figures and left `free`
 pub record SaidSo (state b r : ℕ) (said free : List ℕ) : Type 0 where
   -- free now: the block is among the free extents, unless 26 stops the letting go
-  pub free-now : state ≡ 0 → (r ≡ 26) ⊎ ((r ≡ 0) × (lies (free_written said free) b ≡ true))
+  pub free_now : state ≡ 0 → (r ≡ 26) ⊎ ((r ≡ 0) × (lies (free_written said free) b ≡ true))
   -- still held: it is not
-  pub still-held : state ≡ 1 → (r ≡ 26) ⊎ ((r ≡ 0) × (lies (free_written said free) b ≡ false))
+  pub still_held : state ≡ 1 → (r ≡ 26) ⊎ ((r ≡ 0) × (lies (free_written said free) b ≡ false))
   -- staging: 25 refuses the letting go
   pub staging : state ≡ 2 → r ≡ 25
 

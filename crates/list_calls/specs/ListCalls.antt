@@ -40,8 +40,8 @@ pub record ReleaseSays (o : Outcome Freed) (r : ℕ) (said new new' free free' :
 pub record GroupEditSays (o : Outcome NewLists) (r : ℕ) (said map map' counts counts' free free' : List ℕ) : Type 0 where
   pub answer : Says group_figures (sizes_of o) r said
   pub map_is : map' ≡ written rmaps map (map_of o)
-  pub counts-are : counts' ≡ written refcounts counts (counts_of o)
-  pub free-are : free' ≡ written free_extents free (free_of o)
+  pub counts_are : counts' ≡ written refcounts counts (counts_of o)
+  pub free_are : free' ≡ written free_extents free (free_of o)
 
 -- a sheet that is read or written
 pub record SheetSays (o : Outcome (List ℕ)) (r : ℕ) (said out out' : List ℕ) : Type 0 where

@@ -25,7 +25,7 @@ pub record Never26 : Type 0 where
       → GroupEditSays (let_go_outcome map counts x (length kept) (length lowered) (length free)) r said kept kept' lowered lowered' free free'
       → map_room map ≤ length kept → lower_room counts ≤ length lowered → free_room counts x.startblock x.blockcount ≤ length free
       → r ≡ 26 → ⊥
-  pub takes-held : (map counts : List ℕ) (x : Rmap) (r : ℕ) (said taken taken' raised raised' : List ℕ) → IsBytes counts
+  pub takes_held : (map counts : List ℕ) (x : Rmap) (r : ℕ) (said taken taken' raised raised' : List ℕ) → IsBytes counts
       → GroupEditSays (take_held_outcome map counts x (length taken) (length raised)) r said taken taken' raised raised' [] []
       → map_room map ≤ length taken → raise_room counts x.startblock x.blockcount ≤ length raised
       → r ≡ 26 → ⊥

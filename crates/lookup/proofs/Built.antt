@@ -44,9 +44,9 @@ module _ (g : Geometry) (ok : geometry_ok g ≡ true) (s : Sound (layout_of g ki
       let q : length bytes / 24 ≡ n = omega arith in
       let m : ℕ = length bytes / 24 in
       let k : ℕ = leaves (per_leaf sh) m in
-      let room : n ≤ k * per_leaf sh = omega (arith, leaves-room (per_leaf sh) m s.sized.leaf-some) in
+      let room : n ≤ k * per_leaf sh = omega (arith, leaves-room (per_leaf sh) m s.sized.leaf_some) in
       plan-keyed g ok s image limit k (above (per_node sh) k 9) numbers bytes n (leaves-some (per_leaf sh) m) room
-      (above-shaped (per_node sh) k 9 s.sized.node-some (leaves-some (per_leaf sh) m) (omega arith))
+      (above-shaped (per_node sh) k 9 s.sized.node_some (leaves-some (per_leaf sh) m) (omega arith))
       (omega arith) long small most bytes-are are fine holds
 
   walk-keys : (numbers : List ℕ) (levels : ℕ) → KeyedWhole g ok s image limit levels numbers
@@ -81,7 +81,7 @@ every-built g list numbers bytes image room m st long =
     let held : Held (layout_of g kind.Rmap) image (build (layout_of g kind.Rmap) numbers list) =
     held-blocks (layout_of g kind.Rmap) image (build (layout_of g kind.Rmap) numbers list) numbers made (subst (Holds g.blocksize image numbers) (sym a.1) st.held) in
     let v : Trace = run (look_in sh image) limit (visit_of (root_of numbers) (levels - 1) ∷ []) in
-    let back : Back (plan_of sh list) numbers list v = built-returned (layout_of g kind.Rmap) s image numbers list (length list / 24) limit records-whole few planned st.small st.list-bytes held st.within in
+    let back : Back (plan_of sh list) numbers list v = built-returned (layout_of g kind.Rmap) s image numbers list (length list / 24) limit records-whole few planned st.small st.list_bytes held st.within in
     let fine : Fine list = (omega arith, accepted-bounded (records_of rmaps list) order) in
     let fit_same : fit m.blocks m.bytes v ≡ v = back.fits m.blocks m.bytes long.blocks long.bytes in
     let some : 1 ≤ levels = some-levels g list in (
@@ -93,7 +93,7 @@ every-built g list numbers bytes image room m st long =
           order = ap (λ (l : List ℕ). accepted (records_of rmaps l)) back.in_order ∙ order;
           keys =
               walk-keys g ok s image limit numbers levels
-              (built-keyed g ok s image limit numbers list (length list / 24) records-whole few planned st.small st.within st.list-bytes fine held);
+              (built-keyed g ok s image limit numbers list (length list / 24) records-whole few planned st.small st.within st.list_bytes fine held);
         },
         back.in_order,
       ),

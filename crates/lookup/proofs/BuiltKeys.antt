@@ -125,7 +125,7 @@ module _ (t : Layout) (s : Sound t) where
           key =
               ap (λ (n : ℕ). drop n (t.keys c.below ++ keys_of t.keys cs)) e
               ∙ sym (drop-drop (i * w) w (t.keys c.below ++ keys_of t.keys cs))
-              ∙ ap (drop (i * w)) (drop_at (t.keys c.below) (keys_of t.keys cs) w (s.sized.keys-long c.below))
+              ∙ ap (drop (i * w)) (drop_at (t.keys c.below) (keys_of t.keys cs) w (s.sized.keys_long c.below))
               ∙ r.key;
           at = r.at;
           rooted = r.rooted;
@@ -154,14 +154,14 @@ module _ (t : Layout) (s : Sound t) where
     unfolding records_in
     leaf-alone b n = append-nil b
 
-    leaves-fit : t.shape.record-length ≡ 24 → (ns counts bytes : List ℕ) → Fine bytes → Along Fit (children_of ns (leaf_parts t counts bytes)) (leaf_steps t ns counts bytes)
+    leaves-fit : t.shape.record_length ≡ 24 → (ns counts bytes : List ℕ) → Fine bytes → Along Fit (children_of ns (leaf_parts t counts bytes)) (leaf_steps t ns counts bytes)
     unfolding children_of leaf_parts leaf_steps
     leaves-fit z [] counts bytes h = tt
     leaves-fit z (n ∷ ns) [] bytes h = tt
     leaves-fit z (n ∷ ns) (c ∷ counts) bytes h =
-        let r : Fine (take (c * t.shape.record-length) bytes) × Fine (drop (c * t.shape.record-length) bytes) =
+        let r : Fine (take (c * t.shape.record_length) bytes) × Fine (drop (c * t.shape.record_length) bytes) =
         subst (λ (x : ℕ). Fine (take (c * x) bytes) × Fine (drop (c * x) bytes)) (sym z) (fine-part c bytes h) in
-        ((leaf-alone (take (c * t.shape.record-length) bytes) n, r.0), leaves-fit z ns counts (drop (c * t.shape.record-length) bytes) r.1)
+        ((leaf-alone (take (c * t.shape.record_length) bytes) n, r.0), leaves-fit z ns counts (drop (c * t.shape.record_length) bytes) r.1)
 
 -- a pointer by its number
 pointers-at : (part : List ℕ) (at level k i : ℕ) → i < k → get_or (pointers part at level k) i (visit_of 0 0) ≡ visit_of (be_of (bytes_at part (at + i * 4) 4)) level
@@ -204,7 +204,7 @@ module _ (g : Geometry) (ok : geometry_ok g ≡ true) (s : Sound (layout_of g ki
       ∙ ap (take 4) (sym (drop-drop o (i * 40) (keys_of t.keys cs)))
       ∙ ap (λ (x : List ℕ). take 4 (drop o x)) c.key
       ∙ sym (bytes_at-is (key ++ c.more) o 4)
-      ∙ bytes_at-front key c.more o 4 (omega (arith, s.sized.keys-long c.child.below))
+      ∙ bytes_at-front key c.more o 4 (omega (arith, s.sized.keys_long c.child.below))
       ∙ bytes_at-is key o 4
 
   -- the keys of a node's children are theirs

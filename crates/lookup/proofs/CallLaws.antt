@@ -72,7 +72,7 @@ module _ (asked : List ℕ) (t : Trace) (stack stack₁ stack' answers answers�
       record {
         answer = e;
         stack_is = zs ∙ ap (λ (k : ℕ). replicate k 0) ls;
-        answers-are =
+        answers_are =
             u
             ∙ c'
             ∙ ap (tallied rs asked) (zero-summed (length asked) start (omega (arith, long)) (zeroed_start asked answers))
@@ -86,7 +86,7 @@ module _ (asked : List ℕ) (t : Trace) (stack stack₁ stack' answers answers�
       record {
         answer = e;
         stack_is = zs ∙ ap (λ (k : ℕ). replicate k 0) ls;
-        answers-are =
+        answers_are =
             za
             ∙ ap (λ (k : ℕ). replicate k 0) la
             ∙ sym (from-refused 0 (lookup_number f) v (lookup_values f) t (with_bytes answers 0 (tallies (records_of rmaps (records t)) asked)) (zeros answers) (sym (report-is t) ∙ sym e ∙ ap looked_up_report q));
@@ -94,7 +94,7 @@ module _ (asked : List ℕ) (t : Trace) (stack stack₁ stack' answers answers�
 
 -- a call that 1, 11, 12 or 29 refuses touches nothing
 pub untouched : (asked : List ℕ) (o : Outcome Trace) (f : LookupRefusal) (stack answers : List ℕ) → o ≡ refused (lookup_number f) (lookup_values f) → LookupIs asked o (Refused f 0) stack stack answers answers
-untouched asked o f stack answers e = rw e (record { answer = refl; stack_is = refl; answers-are = refl })
+untouched asked o f stack answers e = rw e (record { answer = refl; stack_is = refl; answers_are = refl })
 
 -- what 29 asks
 pub may-means : (asked : List ℕ) (n : ℕ) → (ascending asked && leb (length asked) n) ≡ true → (ascending asked ≡ true) × (length asked ≤ n)

@@ -5,7 +5,7 @@ use Rattle.blocks.specs.declared.geometry.Geometry.{Geometry}
 use Rattle.blocks.specs.declared.kind.TreeKind.TheVariants as kind
 use Rattle.blocks.specs.Geometry.{geometry_ok}
 use Rattle.blocks.specs.Tree.{header_len}
-use Rattle.blocks.proofs.Laws.{places-fit, header-fits}
+use Rattle.blocks.proofs.Laws.{places-fit, header_fits}
 use Rattle.walks.specs.Walk.{Visit, visit_of, Shape, per_node, block_in}
 use Rattle.walks.specs.Shapes.{shape_of}
 use Rattle.walks.specs.Path.{every, due_in, path_of, Opened, Moved}
@@ -17,7 +17,7 @@ use Rattle.lookup.specs.Inner.Descent.{Taken}
 pub keys-inside : (g : Geometry) → geometry_ok g ≡ true → (i : ℕ) → i < per_node (shape_of g kind.Rmap) → header_len g.version + i * 40 + 40 ≤ g.blocksize
 keys-inside g ok i h =
     let c : ℕ = per_node (shape_of g kind.Rmap) in
-    let k : header_len g.version + c * 44 ≤ g.blocksize = places-fit kind.Rmap g.version 1 g.blocksize c (header-fits g kind.Rmap 1 ok) (le_refl c) in
+    let k : header_len g.version + c * 44 ≤ g.blocksize = places-fit kind.Rmap g.version 1 g.blocksize c (header_fits g kind.Rmap 1 ok) (le_refl c) in
     omega arith
 
 module _ (s : Shape) (image : List ℕ) (p p' : List ℕ) (block level from levels : ℕ) (o : Opened s image p from levels) (m : Moved s image block level from levels p p') where

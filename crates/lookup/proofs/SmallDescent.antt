@@ -28,7 +28,7 @@ use Rattle.trees.proofs.SmallTree.{small, small-fits, numbers}
 use Rattle.lookup.specs.Lookup as lookup
 use Rattle.lookup.specs.Lookup.{low_start, high_start, keeps, look_asked, lookup_of}
 use Rattle.lookup.proofs.BuiltKeys.{keys-at}
-use Rattle.lookup.proofs.SmallLookup.{shared, list, list-bytes, image, image_holds}
+use Rattle.lookup.proofs.SmallLookup.{shared, list, list_bytes, image, image_holds}
 
 abbrev t : Layout
 t = layout_of small kind.Rmap
@@ -76,12 +76,12 @@ one_number (suc i) = omega arith
 root-look : look_in sh image (visit_of 2 1) ≡ good (visit_of 0 0 ∷ visit_of 1 0 ∷ []) []
 unfolding building.children_of leaf_parts tree.header_len plan.sum plan.share_of plan.shares_from level.visits_to level.numbers_of
 root-look =
-    (above-seen t s image 0 (1 ∷ []) (2 ∷ []) kids one_number two-numbers (belows-leaves t (0 ∷ 1 ∷ []) (10 ∷ 10 ∷ []) list list-bytes) (omega arith) (omega arith, omega arith, refl) refl held.1).0.0
+    (above-seen t s image 0 (1 ∷ []) (2 ∷ []) kids one_number two-numbers (belows-leaves t (0 ∷ 1 ∷ []) (10 ∷ 10 ∷ []) list list_bytes) (omega arith) (omega arith, omega arith, refl) refl held.1).0.0
 
 leaf-look : look_in sh image (visit_of 1 0) ≡ good [] (take 240 (drop 240 list))
 unfolding shared bytes.be_bytes records.field_bytes records.bytes_of tree.header_len plan.sum
 leaf-look =
-    (leaves-seen t s image null_ag_block (0 ∷ 1 ∷ []) (10 ∷ 10 ∷ []) list (omega arith) two-numbers list-bytes (omega arith, (omega arith, tt)) (omega arith) held.0).1.0
+    (leaves-seen t s image null_ag_block (0 ∷ 1 ∷ []) (10 ∷ 10 ∷ []) list (omega arith) two-numbers list_bytes (omega arith, (omega arith, tt)) (omega arith) held.0).1.0
 
 -- ---- the keys in the root
 

@@ -56,17 +56,17 @@ built = refl
 abbrev pub image : List ℕ
 image = stored 512 (replicate 1536 0) numbers (built_bytes small kind.Rmap list numbers)
 
-pub list-bytes : IsBytes list
-list-bytes = IsBytes-bytes_of rmaps rmaps-lawful (shared 4 10)
+pub list_bytes : IsBytes list
+list_bytes = IsBytes-bytes_of rmaps rmaps-lawful (shared 4 10)
 
 pub image_holds : Holds 512 image numbers (built_bytes small kind.Rmap list numbers)
 image_holds =
     (stored-held 512 (replicate 1536 0) numbers (built_bytes small kind.Rmap list numbers)
-    (built-length small kind.Rmap list numbers (built_bytes small kind.Rmap list numbers) 1536 small-fits list-bytes small-numbers built) small-places).0
+    (built-length small kind.Rmap list numbers (built_bytes small kind.Rmap list numbers) 1536 small-fits list_bytes small-numbers built) small-places).0
 
 standing : Standing small list numbers (built_bytes small kind.Rmap list numbers) image 1536
 standing =
-    record { fits = small-fits; list-bytes = list-bytes; small = small-numbers; built = built; held = image_holds; within = omega arith }
+    record { fits = small-fits; list_bytes = list_bytes; small = small-numbers; built = built; held = image_holds; within = omega arith }
 
 -- what is lent to a walk: 12's stack and scratch, and lists as long as needed
 abbrev pub room : Lent

@@ -181,11 +181,11 @@ module _ (r : Rmap) (asked l : List ℕ) (up : ascending asked ≡ true) (room :
   under-it k h b c = omega (arith, adds k h, within_in r.startblock r.blockcount 1 (get_or asked k 0) (first-after r.startblock asked up k h b) c)
 
   -- the counts are as they should be if they are at each number, and the places past them are as they were
-  counts-are : (m : List ℕ) → length m ≡ length l
+  counts_are : (m : List ℕ) → length m ≡ length l
       → ((k : ℕ) → k < n → get_or (summed n m) k 0 ≡ get_or (tallied (r ∷ []) asked (summed n l)) k 0)
       → ((k : ℕ) → n ≤ k → get_or m k 0 ≡ get_or l k 0)
       → summed n m ≡ tallied (r ∷ []) asked (summed n l)
-  counts-are m same at past =
+  counts_are m same at past =
       let fits : n ≤ length m = omega (arith, same) in
       ext_get_or 0 (summed n m) (tallied (r ∷ []) asked (summed n l))
       (summed-length n m fits ∙ same ∙ sym (tallied-length (r ∷ []) asked (summed n l) ∙ summed-length n l room))
@@ -197,7 +197,7 @@ module _ (r : Rmap) (asked l : List ℕ) (up : ascending asked ≡ true) (room :
   -- no number lies under it
   pub tally-none : (n ≤ from → ⊥) → end ≤ get_or asked from 0 → summed n l ≡ tallied (r ∷ []) asked (summed n l)
   tally-none some far =
-      counts-are l refl
+      counts_are l refl
       (λ k h. elim (dec_lt k from) [
         | yes b ↦ sym (before-it k h b)
         | no b ↦ sym (after-it k h (omega (arith, far, ascends-order asked up from k (omega (arith, b)) h)))
@@ -205,14 +205,14 @@ module _ (r : Rmap) (asked l : List ℕ) (up : ascending asked ≡ true) (room :
       (λ k h. refl)
 
   pub tally-past : n ≤ from → summed n l ≡ tallied (r ∷ []) asked (summed n l)
-  tally-past h = counts-are l refl (λ k b. sym (before-it k b (omega arith))) (λ k b. refl)
+  tally-past h = counts_are l refl (λ k b. sym (before-it k b (omega arith))) (λ k b. refl)
 
   -- one more at the first number under it
   module _ (some : Room 1 asked (summed n l)) (l' : List ℕ) (begins : Raised l l' from) (inside : from < n) where
     -- and no number lies past it
     pub tally-open : n ≤ first_at end asked → summed n l' ≡ tallied (r ∷ []) asked (summed n l)
     tally-open none =
-        counts-are l' begins.same_length
+        counts_are l' begins.same_length
         (λ k h. elim (dec_lt k from) [
           | yes b ↦ counts-before n l l' from room inside begins k b ∙ sym (before-it k h b)
           | no b ↦ counts-after n l l' from room inside begins k (omega (arith, b)) h
@@ -225,7 +225,7 @@ module _ (r : Rmap) (asked l : List ℕ) (up : ascending asked ≡ true) (room :
     tally-closed m ends past h =
         let to : ℕ = first_at end asked in
         let fits : n ≤ length m = omega (arith, ends.same_length, begins.same_length) in
-        counts-are m (sym ends.same_length ∙ begins.same_length)
+        counts_are m (sym ends.same_length ∙ begins.same_length)
         (λ k b. elim (dec_lt k to) [
           | yes c ↦ sym (counts-before n m l' to fits past ends k c) ∙ elim (dec_lt k from) [
             | yes f ↦ counts-before n l l' from room inside begins k f ∙ sym (before-it k b f)

@@ -39,4 +39,4 @@ visits_report o = record { outcome = map_outcome (λ c. c.visits) (report (recor
 pub record LookupIs (asked : List ℕ) (o : Outcome Trace) (r : LookedUp) (stack stack' answers answers' : List ℕ) : Type 0 where
   pub answer : looked_up_report r ≡ visits_report o
   pub stack_is : stack' ≡ scratch_after o stack
-  pub answers-are : answers' ≡ answers_after asked o answers
+  pub answers_are : answers' ≡ answers_after asked o answers

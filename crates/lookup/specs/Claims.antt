@@ -99,7 +99,7 @@ EveryLaterLookup =
 -- build built these bytes over the list, with so much output lent, an image holds them at the numbers given, and there are no more than the visits allow
 pub record Standing (g : Geometry) (list numbers bytes image : List ℕ) (out : ℕ) : Type 0 where
   pub fits : Fits g
-  pub list-bytes : IsBytes list
+  pub list_bytes : IsBytes list
   pub small : AreNumbers numbers
   pub built : build_outcome g kind.Rmap list numbers out ≡ done bytes
   pub held : Holds g.blocksize image numbers bytes

@@ -86,9 +86,9 @@ module _ (map counts : List ℕ) (other b : ℕ) where
   c = records_of refcounts counts
 
   module _ (i : ℕ) (e : i ≡ index_where (shared_over b) c) where
-    pub free-now : length counts / 12 ≤ i → Free ≡ held_of other b m c
+    pub free_now : length counts / 12 ≤ i → Free ≡ held_of other b m c
     unfolding held_of
-    free-now h = rw (← e, past-counts counts i h) refl
+    free_now h = rw (← e, past-counts counts i h) refl
 
     module _ (h : i < length counts / 12) where
       pub held-in-map : other < length map / 24 → HeldInMap other ≡ held_of other b m c
@@ -254,10 +254,10 @@ module _ (map counts : List ℕ) (x : Rmap) (b : ℕ) (answer : Explained) where
       → (n : ℕ) → n ≡ number_said (explained_outcome answer) → Explains map counts x b part n
   explains-said w e h part p n q =
       let o : explain_outcome map counts x b ≡ done w = sym h ∙ ap explained_outcome e in
-      rw o (record { part-is = p; said-is = q ∙ ap (λ (r : Explained). number_said (explained_outcome r)) e })
+      rw o (record { part_is = p; said_is = q ∙ ap (λ (r : Explained). number_said (explained_outcome r)) e })
 
   pub explains-refused : (r : ExplainRefusal) → answer ≡ Refused r → explained_outcome answer ≡ explain_outcome map counts x b
       → (n : ℕ) → n ≡ number_said (explained_outcome answer) → Explains map counts x b [] n
   explains-refused r e h n q =
       let o : explain_outcome map counts x b ≡ refused (explain_number r) (explain_values r) = sym h ∙ ap explained_outcome e in
-      rw o (record { part-is = refl; said-is = q ∙ ap (λ (r : Explained). number_said (explained_outcome r)) e })
+      rw o (record { part_is = refl; said_is = q ∙ ap (λ (r : Explained). number_said (explained_outcome r)) e })

@@ -105,8 +105,8 @@ shared-accepted = subst Accepted shared-run (history none_held (first ∷ second
 shared-agree : Agreeing shared_lists
 shared-agree = subst Agreeing shared-run (history none_held (first ∷ second ∷ []) none-start).agree
 
-pub still-held : HeldAfter (HeldInMap 1) (holders (remove gone (records_of rmaps pair)) 1)
-still-held = every-holder shared_lists gone 1 (HeldInMap 1) shared-accepted shared-agree explains.held
+pub still_held : HeldAfter (HeldInMap 1) (holders (remove gone (records_of rmaps pair)) 1)
+still_held = every-holder shared_lists gone 1 (HeldInMap 1) shared-accepted shared-agree explains.held
 
 -- and nobody holds block 0
 pub none_left : HeldAfter Free (holders (remove gone (records_of rmaps pair)) 0)

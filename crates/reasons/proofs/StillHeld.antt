@@ -73,10 +73,10 @@ every-holder σ x b w a g h = subst (λ (w : Why). HeldAfter w n) k.1 (by-stagin
     one = omega (arith, holders-remove x m b k.0.1.1.1.0, within-over x.startblock x.blockcount 1 b k.0.1.1.1.1.1.1.1.0)
 
     told : owners c b ≡ several (holders m b)
-    told = agree-equation m c (C.accepted-facts c (storable-records_of refcounts refcounts-lawful σ.counts a.counts-bytes) a.counts-order) g b
+    told = agree-equation m c (C.accepted-facts c (storable-records_of refcounts refcounts-lawful σ.counts a.counts_bytes) a.counts_order) g b
 
     placed : eqb (owners c b) 0 ≡ not (stands j c)
-    placed = owners-place refcount.least c b a.counts-order
+    placed = owners-place refcount.least c b a.counts_order
 
     two : stands j c ≡ true → 2 ≤ holders m b
     two e =

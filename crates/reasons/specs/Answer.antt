@@ -52,8 +52,8 @@ Named (Staging i) m c = i < c
 
 -- what `explain` hands back and says, where the call comes to o
 pub record ExplainIs (map counts : List ℕ) (o : Outcome Why) (part : List ℕ) (said : ℕ) : Type 0 where
-  pub part-is : part ≡ part_said map counts o
-  pub said-is : said ≡ number_said o
+  pub part_is : part ≡ part_said map counts o
+  pub said_is : said ≡ number_said o
 
 abbrev pub Explains : (map counts : List ℕ) → Rmap → ℕ → (part : List ℕ) → (said : ℕ) → Type 0
 Explains map counts x b part said = ExplainIs map counts (explain_outcome map counts x b) part said

@@ -22,7 +22,7 @@ use Rattle.sheets.specs.declared.change.SheetChange.{SheetChange}
 use Rattle.sheets.specs.declared.change.SheetChange.TheVariants.{FirstTake, LetGo, TakeHeld, Nothing}
 use Rattle.sheets.specs.Change.{change_kind, change_record, good_change, good_changes, good_list, asked_by, change_at}
 use Rattle.sheets.specs.Sheet.{is_zeros, count, part_in, crc_ok, good_count, good_header, ruled}
-use Rattle.sheets.proofs.Passing.{part-is}
+use Rattle.sheets.proofs.Passing.{part_is}
 
 -- ---- a change
 
@@ -160,11 +160,11 @@ module _ (b : List ℕ) (long : length b ≡ 512) where
       few = omega (arith, header-count i last f)
 
       changes-are : take (32 + n * 32 - 32) (drop 32 b) ≡ part_in b
-      changes-are = part-is b 32 (n * 32) ∙ ap (λ (x : ℕ). bytes_at b 32 (x * 32)) number
+      changes-are = part_is b 32 (n * 32) ∙ ap (λ (x : ℕ). bytes_at b 32 (x * 32)) number
 
       changes-many : length (take (32 + n * 32 - 32) (drop 32 b)) / 32 ≡ count b
       changes-many =
-          ap (λ (x : List ℕ). length x / 32) (part-is b 32 (n * 32))
+          ap (λ (x : List ℕ). length x / 32) (part_is b 32 (n * 32))
           ∙ ap (λ (x : ℕ). x / 32) (length-bytes_at b 32 (n * 32) (omega (arith, few)))
           ∙ mul-div_cancel n (omega arith)
           ∙ number

@@ -150,5 +150,5 @@ zeros-end s i h = rw (drop_of_length-le s {i = i} h)
 
 -- ---- a part as a loop lends it
 
-pub part-is : (l : List ℕ) (at w : ℕ) → take (at + w - at) (drop at l) ≡ bytes_at l at w
-part-is l at w = ap (λ (k : ℕ). take k (drop at l)) (add-sub_cancel_left at w) ∙ sym (bytes_at-is l at w)
+pub part_is : (l : List ℕ) (at w : ℕ) → take (at + w - at) (drop at l) ≡ bytes_at l at w
+part_is l at w = ap (λ (k : ℕ). take k (drop at l)) (add-sub_cancel_left at w) ∙ sym (bytes_at-is l at w)

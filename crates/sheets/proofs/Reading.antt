@@ -26,7 +26,7 @@ use Rattle.sheets.specs.Inner.Passes.{Kept}
 use Rattle.sheets.proofs.Asking.{asked-crc, asked-rule, asked-done, Passed}
 use Rattle.sheets.proofs.Blocks.{ruled-facts}
 use Rattle.sheets.proofs.Sheets.{count_of, changes-count}
-use Rattle.sheets.proofs.Passing.{crcs_from, crcs_from-start, crcs_from-bad, crcs_from-pass, crcs_from-end, ruled_from, ruled_from-start, ruled_from-more, ruled_from-end, part-is}
+use Rattle.sheets.proofs.Passing.{crcs_from, crcs_from-start, crcs_from-bad, crcs_from-pass, crcs_from-end, ruled_from, ruled_from-start, ruled_from-more, ruled_from-end, part_is}
 
 -- ---- answers
 
@@ -69,11 +69,11 @@ module _ (s : List ℕ) where
       part = take (i * 512 + 512 - i * 512) (drop (i * 512) s)
 
       pub scan-bad : crc_ok part ≡ false → refused 32 none ≡ check_outcome s
-      scan-bad e = sym (asked-crc s (crcs-are false (crcs_from-bad n s i h (ap crc_ok (sym (part-is s (i * 512) 512)) ∙ e))))
+      scan-bad e = sym (asked-crc s (crcs-are false (crcs_from-bad n s i h (ap crc_ok (sym (part_is s (i * 512) 512)) ∙ e))))
 
       module _ (e : crc_ok part ≡ true) where
         right : all_crcs n s ≡ crcs_from n s (i + 1)
-        right = k.crcs ∙ crcs_from-pass n s i h (ap crc_ok (sym (part-is s (i * 512) 512)) ∙ e)
+        right = k.crcs ∙ crcs_from-pass n s i h (ap crc_ok (sym (part_is s (i * 512) 512)) ∙ e)
 
         pub scan_good : (good' : Bool) → good ≡ true → good' ≡ ruled i (eqb (i + 1) n) part → Scanned good' (i + 1)
         scan_good good' g r =
@@ -84,7 +84,7 @@ module _ (s : List ℕ) where
                   k.rules
                   ∙ ap (λ (t : Bool). t && ruled_from n s i) g
                   ∙ ruled_from-more n s i h
-                  ∙ ap (λ (t : Bool). t && ruled_from n s (i + 1)) (ap (ruled i (eqb (i + 1) n)) (sym (part-is s (i * 512) 512)) ∙ sym r);
+                  ∙ ap (λ (t : Bool). t && ruled_from n s (i + 1)) (ap (ruled i (eqb (i + 1) n)) (sym (part_is s (i * 512) 512)) ∙ sym r);
             }
 
         pub scan-noted : (good' : Bool) → good ≡ false → good' ≡ good → Scanned good' (i + 1)
@@ -203,12 +203,12 @@ module _ (s : List ℕ) where
 
     lent_is : lent ≡ part_in (block i)
     lent_is =
-        part-is s (i * 512 + 32) (r * 32)
+        part_is s (i * 512 + 32) (r * 32)
         ∙ sym (bytes_at-bytes_at s (i * 512) 512 32 (r * 32) (omega (arith, few)))
         ∙ ap (λ (x : ℕ). bytes_at (block i) 32 (x * 32)) (sym counted)
 
     lent-long : length lent ≡ r * 32
-    lent-long = ap length (part-is s (i * 512 + 32) (r * 32)) ∙ length-bytes_at s (i * 512 + 32) (r * 32) (omega (arith, few, ends))
+    lent-long = ap length (part_is s (i * 512 + 32) (r * 32)) ∙ length-bytes_at s (i * 512 + 32) (r * 32) (omega (arith, few, ends))
 
     next : changes_from i ≡ lent ++ changes_from (i + 1)
     next = changes-more i h ∙ ap (λ (x : List ℕ). x ++ changes_from (i + 1)) (sym lent_is)

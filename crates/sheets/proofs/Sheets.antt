@@ -51,8 +51,8 @@ module _ (n i : ℕ) (s : List ℕ) (long : length s ≡ suc n * 512) (r : all_r
   unfolding all_ruled
   rest-ruled = search conj
 
-  part-is : length (part_in (take 512 s)) ≡ count (take 512 s) * 32
-  part-is = part-long i (eqb n 0) (take 512 s) first-long first-ruled
+  part_is : length (part_in (take 512 s)) ≡ count (take 512 s) * 32
+  part_is = part-long i (eqb n 0) (take 512 s) first-long first-ruled
 
   module _ (bytes : IsBytes s) (c : all_crcs (suc n) s ≡ true) where
     rest-crcs : all_crcs n (drop 512 s) ≡ true
@@ -102,7 +102,7 @@ changes-count zero i s l r =
     record {
       some = omega (arith, f.some);
       most = omega (arith, f.most);
-      long = length-append (part_in (take 512 s)) [] ∙ omega (arith, part-is zero i s l r);
+      long = length-append (part_in (take 512 s)) [] ∙ omega (arith, part_is zero i s l r);
       good = ap₂ good_changes k (append-nil (part_in (take 512 s))) ∙ f.good;
     }
 changes-count (suc n) i s l r =
@@ -116,28 +116,28 @@ changes-count (suc n) i s l r =
     record {
       some = omega (arith, rec.some);
       most = omega (arith, rec.most);
-      long = length-append p t ∙ omega (arith, part-is (suc n) i s l r, rec.long);
+      long = length-append p t ∙ omega (arith, part_is (suc n) i s l r, rec.long);
       good =
           ap (λ (x : ℕ). good_changes x (p ++ t)) j
-          ∙ good-append 15 (15 * n + count_of n (drop 512 s)) p t (omega (arith, part-is (suc n) i s l r)) (ap (λ (x : ℕ). good_changes x p) (sym k) ∙ f.good) rec.good;
+          ∙ good-append 15 (15 * n + count_of n (drop 512 s)) p t (omega (arith, part_is (suc n) i s l r)) (ap (λ (x : ℕ). good_changes x p) (sym k) ∙ f.good) rec.good;
     }
 
 -- blocks that are good are those of their changes
-blocks-are : (n i : ℕ) (s : List ℕ) → length s ≡ n * 512 → IsBytes s → all_crcs n s ≡ true → all_ruled i n s ≡ true → s ≡ blocks_from i n (changes_in n s)
+blocks_are : (n i : ℕ) (s : List ℕ) → length s ≡ n * 512 → IsBytes s → all_crcs n s ≡ true → all_ruled i n s ≡ true → s ≡ blocks_from i n (changes_in n s)
 unfolding blocks_from changes_in
-blocks-are zero i s l h c r = length_none s (omega arith)
-blocks-are (suc zero) i s l h c r =
+blocks_are zero i s l h c r = length_none s (omega arith)
+blocks_are (suc zero) i s l h c r =
     let p : List ℕ = part_in (take 512 s) in
     let m : count (take 512 s) ≤ 15 = (first-ruled zero i s l r).most in
-    let t : take 480 (p ++ []) ≡ p = ap (take 480) (append-nil p) ∙ take_all 480 p (omega (arith, part-is zero i s l r)) in
+    let t : take 480 (p ++ []) ≡ p = ap (take 480) (append-nil p) ∙ take_all 480 p (omega (arith, part_is zero i s l r)) in
     sym (take-append-drop 512 s)
     ∙ ap₂ ◌++◌ (first-is zero i s l r h c ∙ ap (block_of i true) (sym t)) (length_none (drop 512 s) (rest-long zero i s l r ∙ omega arith))
-blocks-are (suc (suc n)) i s l h c r =
+blocks_are (suc (suc n)) i s l h c r =
     let p : List ℕ = part_in (take 512 s) in
     let f : count (take 512 s) ≡ 15 = full-count (eqb (suc n) 0) (count (take 512 s)) (not_last n) (first-ruled (suc n) i s l r).full in
-    let q : length p ≡ 480 = omega (arith, part-is (suc n) i s l r) in
+    let q : length p ≡ 480 = omega (arith, part_is (suc n) i s l r) in
     let rest : List ℕ = changes_in (suc n) (drop 512 s) in
-    let rec = blocks-are (suc n) (suc i) (drop 512 s) (rest-long (suc n) i s l r) (IsBytes-drop 512 s h) (rest-crcs (suc n) i s l r h c) (rest-ruled (suc n) i s l r) in
+    let rec = blocks_are (suc n) (suc i) (drop 512 s) (rest-long (suc n) i s l r) (IsBytes-drop 512 s h) (rest-crcs (suc n) i s l r h c) (rest-ruled (suc n) i s l r) in
     sym (take-append-drop 512 s)
     ∙ ap₂ ◌++◌ (first-is (suc n) i s l r h c ∙ ap (block_of i (eqb (suc n) 0)) (sym (take_at p rest 480 q)))
     (rec ∙ ap (blocks_from (suc i) (suc n)) (sym (drop_at p rest 480 q)))
@@ -202,7 +202,7 @@ read-is-written s l room h e =
     let d : length l / 32 ≡ t = ap (λ (x : ℕ). x / 32) g ∙ mul-div_cancel t (omega arith) in
     let q : blocks_for l ≡ suc n = blocks-for n (count_of n s) l c.some c.most g in
     record {
-      is = blocks-are (suc n) 0 s a.long h a.crcs a.rules ∙ ap (blocks_from 0 (suc n)) k.2 ∙ ap (λ (x : ℕ). blocks_from 0 x l) (sym q);
+      is = blocks_are (suc n) 0 s a.long h a.crcs a.rules ∙ ap (blocks_from 0 (suc n)) k.2 ∙ ap (λ (x : ℕ). blocks_from 0 x l) (sym q);
       good =
           and-true (whole 32 l) _ (facts-whole 32 l (omega arith))
           (and-true (leb 1 (length l / 32)) _ (le-leb 1 (length l / 32) (omega (arith, c.some)))

@@ -210,20 +210,20 @@ module _ (n : ℕ) (l before : List ℕ) where
     ends = omega (arith, k.same)
 
     module _ (to : ℕ) (t : to ≡ min (i * 480 + 480) (length l)) where
-      part-is : take (to - i * 480) (drop (i * 480) l) ≡ take 480 (drop (i * 480) l)
-      part-is = elim (dec_le (i * 480 + 480) (length l)) [
+      part_is : take (to - i * 480) (drop (i * 480) l) ≡ take 480 (drop (i * 480) l)
+      part_is = elim (dec_le (i * 480 + 480) (length l)) [
         | yes y ↦ ap (λ (x : ℕ). take x (drop (i * 480) l)) (let z : to - i * 480 ≡ 480 = omega arith in z)
         | no q ↦ take_all (to - i * 480) (drop (i * 480) l) (omega (arith, length-drop (i * 480) l)) ∙ sym (take_all 480 (drop (i * 480) l) (omega (arith, length-drop (i * 480) l)))
       ]
 
       pub part-most : length (take (to - i * 480) (drop (i * 480) l)) ≤ 480
-      part-most = omega (arith, ap length part-is, part-few 480 (drop (i * 480) l))
+      part-most = omega (arith, ap length part_is, part-few 480 (drop (i * 480) l))
 
       pub lay-more : (ys : List ℕ) → ys ≡ block_of i (eqb (i + 1) n) (take (to - i * 480) (drop (i * 480) l)) → Laid (put_mid (i * 512) (i * 512 + 512 - i * 512) out ys) (i + 1)
       lay-more ys f =
           let b : List ℕ = block_of i (eqb (i + 1) n) (take 480 (drop (i * 480) l)) in
           let bl : length b ≡ 512 = block-long i (eqb (i + 1) n) (take 480 (drop (i * 480) l)) (part-few 480 (drop (i * 480) l)) in
-          let is : ys ≡ b = f ∙ ap (block_of i (eqb (i + 1) n)) part-is in
+          let is : ys ≡ b = f ∙ ap (block_of i (eqb (i + 1) n)) part_is in
           let put : put_mid (i * 512) (i * 512 + 512 - i * 512) out ys ≡ with_bytes out (i * 512) b = part-put out ys b (i * 512) 512 is bl in
           let fits : i * 512 + length b ≤ length out = omega (arith, ends) in
           let q : i * 512 + length b ≡ (i + 1) * 512 = omega arith in

@@ -21,5 +21,5 @@ module _ {g g' : Geometry} (image : List ℕ) (root levels : ℕ) (asked : List 
       (record {
         answer = reports h (ap (λ (p : Visited). p.outcome) is.answer) (ap (λ (p : Visited). p.passed) is.answer) s;
         stack_is = is.stack_is;
-        answers-are = is.answers-are;
+        answers_are = is.answers_are;
       })

@@ -28,9 +28,9 @@ alike w levels o o' r r' said said' stack stack' other other' scratch scratch₁
     record {
       answers = p.answer.number ∙ ap (λ (x : Outcome Trace). number_of (report w x).outcome) e ∙ sym q.answer.number;
       figures = p.answer.figures ∙ ap (λ (x : Outcome Trace). visit_figures (walk_figures 0) (report w x).outcome (report w x).passed) e ∙ sym q.answer.figures;
-      scratches = p.leaves.scratch-is ∙ ap (λ (x : Outcome Trace). scratch_after x scratch) e ∙ sym q.leaves.scratch-is;
-      block-lists = p.leaves.blocks-are ∙ ap (λ (x : Outcome Trace). blocks_after levels x blocks) e ∙ sym q.leaves.blocks-are;
-      record-lists = p.leaves.records-are ∙ ap (λ (x : Outcome Trace). records_after x out) e ∙ sym q.leaves.records-are;
+      scratches = p.leaves.scratch_is ∙ ap (λ (x : Outcome Trace). scratch_after x scratch) e ∙ sym q.leaves.scratch_is;
+      block_lists = p.leaves.blocks_are ∙ ap (λ (x : Outcome Trace). blocks_after levels x blocks) e ∙ sym q.leaves.blocks_are;
+      record_lists = p.leaves.records_are ∙ ap (λ (x : Outcome Trace). records_after x out) e ∙ sym q.leaves.records_are;
     }
 
 pub every-said-alike : EverySaidAlike
@@ -50,9 +50,9 @@ outside-alike =
     14 14 (0 ∷ 0 ∷ 1 ∷ 0 ∷ []) (0 ∷ 0 ∷ 1 ∷ 0 ∷ []) (0 ∷ []) (0 ∷ []) (0 ∷ []) (0 ∷ []) (0 ∷ []) (0 ∷ [])
     (record {
       answer = record { number = refl; figures = refl };
-      leaves = record { stack_is = refl; scratch-is = refl; blocks-are = refl; records-are = refl };
+      leaves = record { stack_is = refl; scratch_is = refl; blocks_are = refl; records_are = refl };
     })
     (record {
       answer = record { number = refl; figures = refl };
-      leaves = record { stack_is = refl; scratch-is = refl; blocks-are = refl; records-are = refl };
+      leaves = record { stack_is = refl; scratch_is = refl; blocks_are = refl; records_are = refl };
     })

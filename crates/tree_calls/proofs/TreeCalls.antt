@@ -73,7 +73,7 @@ walk-says : {fourth w levels : ℕ} {o : Outcome Trace} {walked : Walked} {a r :
 walk-says is h s =
     record {
       answer = reports h (ap (λ (p : Report). p.outcome) is.answer) (ap (λ (p : Report). p.passed) is.answer) s;
-      leaves = record { stack_is = is.stack_is; scratch-is = is.scratch-is; blocks-are = is.blocks-are; records-are = is.records-are };
+      leaves = record { stack_is = is.stack_is; scratch_is = is.scratch_is; blocks_are = is.blocks_are; records_are = is.records_are };
     }
 
 -- the call of a walk, of the link check, and of the textbook walk

@@ -19,4 +19,4 @@ ReportsVisits p r said = TellsVisits lookup_figures p.outcome p.passed r said
 pub record LookupSays (asked : List ℕ) (o : Outcome Trace) (r : ℕ) (said stack stack' answers answers' : List ℕ) : Type 0 where
   pub answer : ReportsVisits (visits_report o) r said
   pub stack_is : stack' ≡ scratch_after o stack
-  pub answers-are : answers' ≡ answers_after asked o answers
+  pub answers_are : answers' ≡ answers_after asked o answers

@@ -14,8 +14,8 @@ pub record SaidAlike (r r' : ℕ) (said said' scratch scratch' blocks blocks' ou
   pub answers : r ≡ r'
   pub figures : said ≡ said'
   pub scratches : scratch ≡ scratch'
-  pub block-lists : blocks ≡ blocks'
-  pub record-lists : out ≡ out'
+  pub block_lists : blocks ≡ blocks'
+  pub record_lists : out ≡ out'
 
 -- `kf_walk_textbook` and `kf_walk` with a stack of 18 places or more, lent the same besides
 abbrev pub EverySaidAlike : Type 0

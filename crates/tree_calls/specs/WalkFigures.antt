@@ -27,9 +27,9 @@ Reports fourth p r said = TellsVisits (walk_figures fourth) p.outcome p.passed r
 -- the four lent slices after a walk that comes to o, of a tree of so many levels
 pub record Leaves (levels : ℕ) (o : Outcome Trace) (stack stack' scratch scratch' blocks blocks' out out' : List ℕ) : Type 0 where
   pub stack_is : stack' ≡ scratch_after o stack
-  pub scratch-is : scratch' ≡ scratch_after o scratch
-  pub blocks-are : blocks' ≡ blocks_after levels o blocks
-  pub records-are : out' ≡ records_after o out
+  pub scratch_is : scratch' ≡ scratch_after o scratch
+  pub blocks_are : blocks' ≡ blocks_after levels o blocks
+  pub records_are : out' ≡ records_after o out
 
 -- a walk that comes to o, of records of w bytes, with a fourth figure
 pub record Walks (fourth w levels : ℕ) (o : Outcome Trace) (r : ℕ) (said stack stack' scratch scratch' blocks blocks' out out' : List ℕ) : Type 0 where

@@ -114,7 +114,7 @@ unfolding children_of leaf_parts
 belows-leaves t [] counts bytes y = tt
 belows-leaves t (n ∷ ns) [] bytes y = tt
 belows-leaves t (n ∷ ns) (c ∷ counts) bytes y =
-    (IsBytes-take (c * t.shape.record-length) bytes y, belows-leaves t ns counts (drop (c * t.shape.record-length) bytes) (IsBytes-drop (c * t.shape.record-length) bytes y))
+    (IsBytes-take (c * t.shape.record_length) bytes y, belows-leaves t ns counts (drop (c * t.shape.record_length) bytes) (IsBytes-drop (c * t.shape.record_length) bytes y))
 
 pub belows-nodes : (t : Layout) (ns counts : List ℕ) (cs : List Child) → Belows cs → Belows (children_of ns (node_parts t counts cs))
 unfolding children_of node_parts
@@ -133,16 +133,16 @@ module _ (t : Layout) (s : Sized t) where
   pub keys_length : (cs : List Child) → length (keys_of t.keys cs) ≡ length cs * t.shape.keys_length
   unfolding keys_of
   keys_length [] = sym (zero-mul t.shape.keys_length)
-  keys_length (c ∷ cs) = omega (arith, length-append (t.keys c.below) (keys_of t.keys cs), s.keys-long c.below, keys_length cs)
+  keys_length (c ∷ cs) = omega (arith, length-append (t.keys c.below) (keys_of t.keys cs), s.keys_long c.below, keys_length cs)
 
   fresh-length : (p : Part) → roomy t p → length (fresh t p) ≡ t.shape.size
   fresh-length p h = padded-length t.shape.size (replicate t.shape.header 0 ++ p.body) (omega (arith, length-append (replicate t.shape.header 0) p.body, length-replicate {A = ℕ} t.shape.header 0))
 
   pub block-length : (level n : ℕ) (x : Links) (p : Part) → roomy t p → length (block_bytes t level n x p) ≡ t.shape.size
-  block-length level n x p h = s.stamp-long n level p.count x (fresh t p) (fresh-length p h)
+  block-length level n x p h = s.stamp_long n level p.count x (fresh t p) (fresh-length p h)
 
-  pub leaf-roomy : (c : ℕ) (bytes : List ℕ) → c ≤ per_leaf t.shape → length bytes ≤ c * t.shape.record-length → roomy t (leaf_part c bytes)
-  leaf-roomy c bytes h k = omega (arith, mul-le-mul_right t.shape.record-length h, div-mul-le_self (t.shape.size - t.shape.header) t.shape.record-length, s.header-fits)
+  pub leaf-roomy : (c : ℕ) (bytes : List ℕ) → c ≤ per_leaf t.shape → length bytes ≤ c * t.shape.record_length → roomy t (leaf_part c bytes)
+  leaf-roomy c bytes h k = omega (arith, mul-le-mul_right t.shape.record_length h, div-mul-le_self (t.shape.size - t.shape.header) t.shape.record_length, s.header_fits)
 
   keys-room : (cs : List Child) → length cs ≤ per_node t.shape → length (padded (per_node t.shape * t.shape.keys_length) (keys_of t.keys cs)) ≡ per_node t.shape * t.shape.keys_length
   keys-room cs h = padded-length (per_node t.shape * t.shape.keys_length) (keys_of t.keys cs) (omega (arith, keys_length cs, mul-le-mul_right t.shape.keys_length h))
@@ -150,18 +150,18 @@ module _ (t : Layout) (s : Sized t) where
   pub node-roomy : (cs : List Child) → length cs ≤ per_node t.shape → roomy t (node_part t cs)
   node-roomy cs h =
       let k : List ℕ = padded (per_node t.shape * t.shape.keys_length) (keys_of t.keys cs) in
-      omega (arith, length-append k (pointers_of cs), keys-room cs h, pointers-length cs, div-mul-le_self (t.shape.size - t.shape.header) (t.shape.keys_length + 4), mul-add (per_node t.shape) t.shape.keys_length 4, s.header-fits)
+      omega (arith, length-append k (pointers_of cs), keys-room cs h, pointers-length cs, div-mul-le_self (t.shape.size - t.shape.header) (t.shape.keys_length + 4), mul-add (per_node t.shape) t.shape.keys_length 4, s.header_fits)
 
 module _ (t : Layout) (s : Sound t) where
-  keys-bytes : (cs : List Child) → Belows cs → IsBytes (keys_of t.keys cs)
+  keys_bytes : (cs : List Child) → Belows cs → IsBytes (keys_of t.keys cs)
   unfolding keys_of
-  keys-bytes [] y = λ i. omega arith
-  keys-bytes (c ∷ cs) y = IsBytes-append (t.keys c.below) (keys_of t.keys cs) (s.keys-bytes c.below y.0) (keys-bytes cs y.1)
+  keys_bytes [] y = λ i. omega arith
+  keys_bytes (c ∷ cs) y = IsBytes-append (t.keys c.below) (keys_of t.keys cs) (s.keys_bytes c.below y.0) (keys_bytes cs y.1)
 
   pub node-bytes : (cs : List Child) → Belows cs → IsBytes (node_part t cs).body
   node-bytes cs y =
       IsBytes-append (padded (per_node t.shape * t.shape.keys_length) (keys_of t.keys cs)) (pointers_of cs)
-      (padded-bytes (per_node t.shape * t.shape.keys_length) (keys_of t.keys cs) (keys-bytes cs y)) (pointers-bytes cs)
+      (padded-bytes (per_node t.shape * t.shape.keys_length) (keys_of t.keys cs) (keys_bytes cs y)) (pointers-bytes cs)
 
   pub fresh-bytes : (p : Part) → IsBytes p.body → IsBytes (fresh t p)
   fresh-bytes p h = padded-bytes t.shape.size (replicate t.shape.header 0 ++ p.body) (IsBytes-append (replicate t.shape.header 0) p.body (IsBytes-zeros t.shape.header) h)
@@ -172,16 +172,16 @@ module _ (t : Layout) (s : Sound t) where
 
   pub block-body : (level n : ℕ) (x : Links) (p : Part) → roomy t p → drop t.shape.header (block_bytes t level n x p) ≡ p.body ++ rest p
   block-body level n x p h =
-      s.stamp-body n level p.count x (fresh t p) (fresh-length t s.sized p h)
+      s.stamp_body n level p.count x (fresh t p) (fresh-length t s.sized p h)
       ∙ ap (drop t.shape.header) (append_assoc (replicate t.shape.header 0) p.body (rest p))
       ∙ drop_at (replicate t.shape.header 0) (p.body ++ rest p) t.shape.header (length-replicate {A = ℕ} t.shape.header 0)
 
-  pub leaf-shows : (n : ℕ) (x : Links) (c : ℕ) (bytes : List ℕ) → c ≤ per_leaf t.shape → length bytes ≡ c * t.shape.record-length
+  pub leaf-shows : (n : ℕ) (x : Links) (c : ℕ) (bytes : List ℕ) → c ≤ per_leaf t.shape → length bytes ≡ c * t.shape.record_length
       → under t.shape (block_bytes t 0 n x (leaf_part c bytes)) 0 c ≡ good [] bytes
   unfolding under bytes_at
   leaf-shows n x c bytes h k =
-      ap (λ (l : List ℕ). good [] (take (c * t.shape.record-length) l)) (block-body 0 n x (leaf_part c bytes) (leaf-roomy t s.sized c bytes h (omega arith)))
-      ∙ ap (good []) (take_at bytes (rest (leaf_part c bytes)) (c * t.shape.record-length) k)
+      ap (λ (l : List ℕ). good [] (take (c * t.shape.record_length) l)) (block-body 0 n x (leaf_part c bytes) (leaf-roomy t s.sized c bytes h (omega arith)))
+      ∙ ap (good []) (take_at bytes (rest (leaf_part c bytes)) (c * t.shape.record_length) k)
 
   pub node-shows : (n : ℕ) (y : Links) (l : ℕ) (cs : List Child) → AreNumbers (numbers_of cs) → length cs ≤ per_node t.shape
       → under t.shape (block_bytes t (suc l) n y (node_part t cs)) (suc l) (length cs) ≡ good (visits_to l cs) []
@@ -192,7 +192,7 @@ module _ (t : Layout) (s : Sound t) where
       let q : List ℕ = rest (node_part t cs) in
       let p : List ℕ = take t.shape.header b ++ k in
       let z : length b ≡ t.shape.size = block-length t s.sized (suc l) n y (node_part t cs) (node-roomy t s.sized cs h) in
-      let e : length p ≡ first_pointer t.shape = omega (arith, length-append (take t.shape.header b) k, keys-room t s.sized cs h, length-take-le t.shape.header b (omega (arith, s.sized.header-fits))) in
+      let e : length p ≡ first_pointer t.shape = omega (arith, length-append (take t.shape.header b) k, keys-room t s.sized cs h, length-take-le t.shape.header b (omega (arith, s.sized.header_fits))) in
       let is : b ≡ p ++ (pointers_of cs ++ q) =
       sym (take-append-drop t.shape.header b)
       ∙ ap (λ (x : List ℕ). take t.shape.header b ++ x) (block-body (suc l) n y (node_part t cs) (node-roomy t s.sized cs h) ∙ append_assoc k (pointers_of cs) q)
@@ -205,24 +205,24 @@ module _ (t : Layout) (s : Sound t) where
   fresh-node n l left ns cs a f b c y k =
       record {
         number_fits = a;
-        level-fits = f;
-        left-fits = b;
-        right-fits = next_small ns c;
-        are-bytes = fresh-bytes (node_part t cs) (node-bytes cs y);
+        level_fits = f;
+        left_fits = b;
+        right_fits = next_small ns c;
+        are_bytes = fresh-bytes (node_part t cs) (node-bytes cs y);
         long = fresh-length t s.sized (node_part t cs) (node-roomy t s.sized cs k);
         most = k;
       }
 
   pub fresh-leaf : (n left : ℕ) (ns : List ℕ) (c : ℕ) (bytes : List ℕ) → n < 2 ^ 32 → left < 2 ^ 32 → AreNumbers ns → IsBytes bytes
-      → c ≤ per_leaf t.shape → length bytes ≤ c * t.shape.record-length
+      → c ≤ per_leaf t.shape → length bytes ≤ c * t.shape.record_length
       → Fresh t.shape n 0 c (record { left = left; right = next ns }) (fresh t (leaf_part c bytes))
   fresh-leaf n left ns c bytes a b d y k m =
       record {
         number_fits = a;
-        level-fits = omega arith;
-        left-fits = b;
-        right-fits = next_small ns d;
-        are-bytes = fresh-bytes (leaf_part c bytes) y;
+        level_fits = omega arith;
+        left_fits = b;
+        right_fits = next_small ns d;
+        are_bytes = fresh-bytes (leaf_part c bytes) y;
         long = fresh-length t s.sized (leaf_part c bytes) (leaf-roomy t s.sized c bytes k m);
         most = k;
       }
@@ -233,7 +233,7 @@ module _ (t : Layout) (s : Sound t) where
         → block_in t.shape.size image n ≡ block_bytes t l n x p
         → look_in t.shape image (visit_of n l) ≡ under t.shape (block_bytes t l n x p) l p.count
     unfolding look_in
-    held-shows n l x p f inside is = rw (le-leb ((n + 1) * t.shape.size) (length image) inside, is, s.stamp-passes n l p.count x (fresh t p) f)
+    held-shows n l x p f inside is = rw (le-leb ((n + 1) * t.shape.size) (length image) inside, is, s.stamp_passes n l p.count x (fresh t p) f)
 
     pub held_both : (xs ys : List Block) → Held t image (xs ++ ys) → Held t image xs × Held t image ys
     held_both [] ys h = (tt, h)
@@ -265,12 +265,12 @@ module _ (t : Layout) (s : Sound t) where
         )
 
     pub leaves-seen : (left : ℕ) (ns counts bytes : List ℕ) → left < 2 ^ 32 → AreNumbers ns → IsBytes bytes → Most (per_leaf t.shape) counts
-        → sum counts * t.shape.record-length ≤ length bytes → Held t image (blocks_of t 0 left ns (leaf_parts t counts bytes)) → LeavesSeen t (look_in t.shape image) ns counts bytes
+        → sum counts * t.shape.record_length ≤ length bytes → Held t image (blocks_of t 0 left ns (leaf_parts t counts bytes)) → LeavesSeen t (look_in t.shape image) ns counts bytes
     unfolding blocks_of leaf_parts sum
     leaves-seen left [] counts bytes z a y m e h = tt
     leaves-seen left (n ∷ ns) [] bytes z a y m e h = tt
     leaves-seen left (n ∷ ns) (c ∷ counts) bytes z a y m e h =
-        let w : ℕ = t.shape.record-length in
+        let w : ℕ = t.shape.record_length in
         let f : (c + sum counts) * w ≡ c * w + sum counts * w = add-mul c (sum counts) w in
         let k : length (take (c * w) bytes) ≡ c * w = length-take-le (c * w) bytes (omega arith) in (
           held-shows n 0 (record { left = left; right = next ns }) (leaf_part c (take (c * w) bytes)) (fresh-leaf n left ns c (take (c * w) bytes) (a 0) z (λ i. a (suc i)) (IsBytes-take (c * w) bytes y) m.0 (omega arith)) h.0 h.1

@@ -54,7 +54,7 @@ module _ (t : Layout) (s : Sound t)
   unfolding leaf_parts
   leaves-are [] bytes h = tt
   leaves-are (c ∷ counts) bytes h =
-      let w : ℕ = t.shape.record-length in
+      let w : ℕ = t.shape.record_length in
       (IsBytes-take (c * w) bytes h, leaves-are counts (drop (c * w) bytes) (IsBytes-drop (c * w) bytes h))
 
   both : (xs ys : List Block) → IsBytes (output xs) → IsBytes (output ys) → IsBytes (output (xs ++ ys))
@@ -73,10 +73,10 @@ module _ (t : Layout) (s : Sound t)
   unfolding build_plan output
   plan-bytes [] numbers bytes h = λ i. omega arith
   plan-bytes (k ∷ ks) numbers bytes h =
-      let ps : List Part = leaf_parts t (shares (length bytes / t.shape.record-length) k) bytes in
+      let ps : List Part = leaf_parts t (shares (length bytes / t.shape.record_length) k) bytes in
       both (blocks_of t 0 null_ag_block (take k numbers) ps) (build_above t 1 ks (drop k numbers) (children_of (take k numbers) ps))
-      (blocks-bytes 0 null_ag_block (take k numbers) ps (leaves-are (shares (length bytes / t.shape.record-length) k) bytes h))
-      (above_bytes 1 ks (drop k numbers) (children_of (take k numbers) ps) (belows-leaves t (take k numbers) (shares (length bytes / t.shape.record-length) k) bytes h))
+      (blocks-bytes 0 null_ag_block (take k numbers) ps (leaves-are (shares (length bytes / t.shape.record_length) k) bytes h))
+      (above_bytes 1 ks (drop k numbers) (children_of (take k numbers) ps) (belows-leaves t (take k numbers) (shares (length bytes / t.shape.record_length) k) bytes h))
 
   build-bytes : (numbers bytes : List ℕ) → IsBytes bytes → IsBytes (output (build t numbers bytes))
   unfolding build

@@ -61,7 +61,7 @@ plan-some g kind list = omega arith
 
 module _
     (g : Geometry) (kind : TreeKind) (list numbers bytes : List ℕ) (room : ℕ)
-    (fits : Fits g) (list-bytes : IsBytes list) (small : AreNumbers numbers)
+    (fits : Fits g) (list_bytes : IsBytes list) (small : AreNumbers numbers)
     (built : build_outcome g kind list numbers room ≡ done bytes)
   where
     -- every question of build held, and these are the blocks
@@ -102,7 +102,7 @@ module _
         let count : ℕ = length list / record_len kind in
         let v : Trace = run (look_in sh image) limit (visit_of (root_of numbers) (levels - 1) ∷ []) in
         let back : Back (plan_of sh list) numbers list v =
-        built-returned (layout_of g kind) s image numbers list count limit (whole-records (record_len kind) list asked.0.1.1.0) few planned small list-bytes
+        built-returned (layout_of g kind) s image numbers list count limit (whole-records (record_len kind) list asked.0.1.1.0) few planned small list_bytes
         (held-blocks (layout_of g kind) image (build (layout_of g kind) numbers list) numbers made (subst (Holds g.blocksize image numbers) (sym asked.1) held)) within in
         let fit_same : fit m.blocks m.bytes v ≡ v = back.fits m.blocks m.bytes long.blocks long.bytes in
         let some : 1 ≤ levels = plan-some g kind list in
@@ -126,7 +126,7 @@ module _
           linked =
               ap (says_linked g.blocksize image levels) is
               ∙ finished-after (levels_linked (leftsib_of g.blocksize image) (rightsib_of g.blocksize image) levels (visits v)) false v back.ended
-              ∙ built-linked (layout_of g kind) s image numbers list count (visits v) (whole-records (record_len kind) list asked.0.1.1.0) few planned small list-bytes
+              ∙ built-linked (layout_of g kind) s image numbers list count (visits v) (whole-records (record_len kind) list asked.0.1.1.0) few planned small list_bytes
               (held-blocks (layout_of g kind) image (build (layout_of g kind) numbers list) numbers made (subst (Holds g.blocksize image numbers) (sym asked.1) held)) back.tops;
         }
 

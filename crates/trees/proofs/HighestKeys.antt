@@ -33,7 +33,7 @@ every-high-key r e =
       owner = refl;
       flags = split (exempt r) (λ x. rw x refl) (λ x. rw x (same_flags r.offset r.blockcount g.0 (g.2 x)).0);
       file = λ x. rw x (same_flags r.offset r.blockcount g.0 (g.2 x)).1;
-      no-file = λ x. rw x refl;
+      no_file = λ x. rw x refl;
     }
 
 -- ---- the order of keys
@@ -113,7 +113,7 @@ highest-first r rs h =
       stands = refl;
       key = refl;
       none_above = (le_not (high_key r) (high_key r) (le_refl (high_key r)), below_none (high_key r) rs h);
-      later-below = h;
+      later_below = h;
     }
 
 -- a later one is
@@ -126,7 +126,7 @@ highest-later r rs k h l =
       stands = ap (λ (x : List Rmap). r ∷ x) h.stands;
       key = h.key;
       none_above = (le_not (high_key r) k l, h.none_above);
-      later-below = h.later-below;
+      later_below = h.later_below;
     }
 
 -- g is k itself, and all high keys are below it; or it is the highest of them, at or above k

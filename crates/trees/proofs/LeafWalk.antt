@@ -19,11 +19,11 @@ use Rattle.trees.proofs.LevelWalk.{numbers_of, numbers-length, numbers-of-childr
 pub leaf-parts-length : (t : Layout) (counts bytes : List ℕ) → length (leaf_parts t counts bytes) ≡ length counts
 unfolding leaf_parts
 leaf-parts-length t [] bytes = refl
-leaf-parts-length t (c ∷ counts) bytes = ap suc (leaf-parts-length t counts (drop (c * t.shape.record-length) bytes))
+leaf-parts-length t (c ∷ counts) bytes = ap suc (leaf-parts-length t counts (drop (c * t.shape.record_length) bytes))
 
 module _ (t : Layout) where
   abbrev w : ℕ
-  w = t.shape.record-length
+  w = t.shape.record_length
 
   -- the steps of the leaves: each alone
   unfoldable pub leaf_steps : List ℕ → List ℕ → List ℕ → List (List Step)

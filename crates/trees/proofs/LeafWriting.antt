@@ -149,7 +149,7 @@ module _ (g : Geometry) (kind : TreeKind) (list blocks : List ℕ) where
     leaf-round =
         record {
           inside = omega (arith, bytes-are, all-next);
-          room = omega (arith, bytes-are, mul-le-mul_right w count_most, div-mul-le_self (g.blocksize - header_len g.version) w, z.header-fits);
+          room = omega (arith, bytes-are, mul-le-mul_right w count_most, div-mul-le_self (g.blocksize - header_len g.version) w, z.header_fits);
           small = omega (arith, count-is, count_small g kind q.given.ok q.given.tree 0 c count_most);
           ends = ends;
           next = step;

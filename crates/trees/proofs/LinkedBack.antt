@@ -58,8 +58,8 @@ module _ (t : Layout) (s : Sound t) (image : List ℕ) where
       let p : Part = node_part t (take c cs) in
       let r : Fresh t.shape n (suc l) p.count x (fresh t p) = fresh-node t s n l before ns (take c cs) (a 0) f z (λ i. a (suc i)) (belows-take c cs y) k in
       one before n ns
-      (ap leftsib_in h.1 ∙ s.stamp-left n (suc l) p.count x (fresh t p) r)
-      (ap rightsib_in h.1 ∙ s.stamp-right n (suc l) p.count x (fresh t p) r)
+      (ap leftsib_in h.1 ∙ s.stamp_left n (suc l) p.count x (fresh t p) r)
+      (ap rightsib_in h.1 ∙ s.stamp_right n (suc l) p.count x (fresh t p) r)
       (nodes-linked l n ns counts (drop c cs) (a 0) (λ i. a (suc i)) (belows-drop c cs y) f (omega arith) m.1 h.2)
 
   leaves-linked : (before : ℕ) (ns counts bytes : List ℕ) → before < 2 ^ 32 → AreNumbers ns → IsBytes bytes
@@ -69,15 +69,15 @@ module _ (t : Layout) (s : Sound t) (image : List ℕ) where
   leaves-linked before [] counts bytes z a y e m h = refl
   leaves-linked before (n ∷ ns) [] bytes z a y e m h = absurd (omega arith)
   leaves-linked before (n ∷ ns) (c ∷ counts) bytes z a y e m h =
-      let w : ℕ = t.shape.record-length in
+      let w : ℕ = t.shape.record_length in
       let b : List ℕ = take (c * w) bytes in
       let x : Links = record { left = before; right = next ns } in
       let p : Part = leaf_part c b in
       let r : Fresh t.shape n 0 p.count x (fresh t p) =
       fresh-leaf t s n before ns c b (a 0) z (λ i. a (suc i)) (IsBytes-take (c * w) bytes y) m.0 (omega (arith, length-take (c * w) bytes)) in
       one before n ns
-      (ap leftsib_in h.1 ∙ s.stamp-left n 0 p.count x (fresh t p) r)
-      (ap rightsib_in h.1 ∙ s.stamp-right n 0 p.count x (fresh t p) r)
+      (ap leftsib_in h.1 ∙ s.stamp_left n 0 p.count x (fresh t p) r)
+      (ap rightsib_in h.1 ∙ s.stamp_right n 0 p.count x (fresh t p) r)
       (leaves-linked n ns counts (drop (c * w) bytes) (a 0) (λ i. a (suc i)) (IsBytes-drop (c * w) bytes y) (omega arith) m.1 h.2)
 
   above-linked : (l : ℕ) (ks nums : List ℕ) (cs : List Child) (vs : List Visit) → AreNumbers nums → Belows cs → l + length ks ≤ 9
@@ -105,12 +105,12 @@ module _ (t : Layout) (s : Sound t) (image : List ℕ) where
 
   plan-linked : (k : ℕ) (ks numbers bytes : List ℕ) (n : ℕ) (vs : List Visit) → 0 < k → n ≤ k * per_leaf t.shape
       → Shaped (per_node t.shape) k ks → length ks ≤ 9 → length numbers ≡ k + sum ks → AreNumbers numbers → IsBytes bytes
-      → length bytes ≡ n * t.shape.record-length → Held t image (build_plan t (k ∷ ks) numbers bytes) → Tops 0 (k ∷ ks) numbers vs
+      → length bytes ≡ n * t.shape.record_length → Held t image (build_plan t (k ∷ ks) numbers bytes) → Tops 0 (k ∷ ks) numbers vs
       → levels_linked left right (suc (length ks)) vs ≡ true
   unfolding build_plan
   plan-linked k ks numbers bytes n vs some room shaped few long small bytes-are are holds o =
-      let q : length bytes / t.shape.record-length ≡ n =
-      ap (λ (x : ℕ). x / t.shape.record-length) are ∙ mul-div_cancel n s.sized.record-some in
+      let q : length bytes / t.shape.record_length ≡ n =
+      ap (λ (x : ℕ). x / t.shape.record_length) are ∙ mul-div_cancel n s.sized.record_some in
       let ps : List Part = leaf_parts t (shares n k) bytes in
       let cs : List Child = children_of (take k numbers) ps in
       let held : Held t image (blocks_of t 0 null_ag_block (take k numbers) ps ++ build_above t 1 ks (drop k numbers) cs) = rw q at holds in
@@ -132,7 +132,7 @@ module _ (t : Layout) (s : Sound t) (image : List ℕ) where
 
   -- the tree that is built over as many blocks as planned is linked, in any image that holds it
   pub built-linked : (numbers bytes : List ℕ) (n : ℕ) (vs : List Visit)
-      → length bytes ≡ n * t.shape.record-length
+      → length bytes ≡ n * t.shape.record_length
       → length (plan_of t.shape bytes) ≤ 9
       → length numbers ≡ sum (plan_of t.shape bytes)
       → AreNumbers numbers
@@ -142,11 +142,11 @@ module _ (t : Layout) (s : Sound t) (image : List ℕ) where
       → levels_linked left right (length (plan_of t.shape bytes)) vs ≡ true
   unfolding build levels_of sum
   built-linked numbers bytes n vs are few long small bytes-are holds o =
-      let q : length bytes / t.shape.record-length ≡ n =
-      ap (λ (x : ℕ). x / t.shape.record-length) are ∙ mul-div_cancel n s.sized.record-some in
-      let m : ℕ = length bytes / t.shape.record-length in
+      let q : length bytes / t.shape.record_length ≡ n =
+      ap (λ (x : ℕ). x / t.shape.record_length) are ∙ mul-div_cancel n s.sized.record_some in
+      let m : ℕ = length bytes / t.shape.record_length in
       let k : ℕ = leaves (per_leaf t.shape) m in
-      let room : n ≤ k * per_leaf t.shape = omega (arith, leaves-room (per_leaf t.shape) m s.sized.leaf-some) in
+      let room : n ≤ k * per_leaf t.shape = omega (arith, leaves-room (per_leaf t.shape) m s.sized.leaf_some) in
       plan-linked k (above (per_node t.shape) k 9) numbers bytes n vs (leaves-some (per_leaf t.shape) m) room
-      (above-shaped (per_node t.shape) k 9 s.sized.node-some (leaves-some (per_leaf t.shape) m) (omega arith))
+      (above-shaped (per_node t.shape) k 9 s.sized.node_some (leaves-some (per_leaf t.shape) m) (omega arith))
       (omega arith) long small bytes-are are holds o

@@ -23,7 +23,7 @@ use Rattle.trees.specs.Build.{Child, padded, keys_of, pointers_of}
 use Rattle.trees.specs.Keys.{rmap_keys, first_key, records_between, AllGood}
 use Rattle.trees.specs.BuildCall.{keys_under}
 use Rattle.trees.specs.Inner.BuildNeeds.{Under, Planned, Children, pointer_bytes, span_children, level_children}
-use Rattle.trees.proofs.TreeKinds.{keys-long}
+use Rattle.trees.proofs.TreeKinds.{keys_long}
 use Rattle.trees.proofs.Going.{first_ends}
 use Rattle.trees.proofs.KeyLaws.{records-part}
 use Rattle.trees.proofs.Padding.{padded-full}
@@ -240,7 +240,7 @@ module _ (kind : TreeKind) (list levels : List ℕ) (level child : ℕ) (below b
                   e
                   ∙ ap₂ (λ (x y : ℕ). with_bytes b (at + j * m) (keys_under kind (bytes_at list (x * w) (y * w - x * w)))) s.place to_is
                   ∙ ap₂ (λ (x : List ℕ) (y : ℕ). with_bytes x (at + y) (keys_under kind (span_under w list f (child + j)))) s.written jm
-                  ∙ keys-next w list f (keys_under kind) (keys_len kind) (keys-long kind) before at child j below h room;
+                  ∙ keys-next w list f (keys_under kind) (keys_len kind) (keys_long kind) before at child j below h room;
               place = to_is ∙ ap f (let z : suc (child + j) ≡ child + (j + 1) = omega arith in z);
             };
       }

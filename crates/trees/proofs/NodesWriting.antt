@@ -25,7 +25,7 @@ use Rattle.trees.specs.BuildCall.{keys_under, layout_of}
 use Rattle.trees.specs.Inner.BuildNeeds.{level_children, pointer_bytes, Node, Nodes, nodes_above}
 use Rattle.trees.proofs.Sharing.{share-most, shares_sum}
 use Rattle.trees.proofs.BlockBytes.{block-length, node-roomy}
-use Rattle.trees.proofs.TreeKinds.{sized, count_small, header-within, keys-long}
+use Rattle.trees.proofs.TreeKinds.{sized, count_small, header-within, keys_long}
 use Rattle.trees.proofs.Writing.{Written, written_none, written-more, written_all, part-put, output-one, node-fresh}
 use Rattle.trees.proofs.LeafWriting.{share-next}
 use Rattle.trees.proofs.NodeWriting.{pointer-length, keys-total, span-count, span-take, span-drop, span-pointers}
@@ -65,7 +65,7 @@ module _ (g : Geometry) (kind : TreeKind) (list levels : List ℕ) (level child 
       let d2 : per * (keys_len kind + 4) ≡ per * keys_len kind + per * 4 = mul-add per (keys_len kind) 4 in
       let most : length below * keys_len kind ≤ per * keys_len kind = mul-le-mul_right (keys_len kind) q.most in
       let kl : length (keys_of (keys_under kind) cs) ≡ length below * keys_len kind =
-      keys-total (keys_under kind) (keys_len kind) (keys-long kind) cs ∙ ap (λ (x : ℕ). x * keys_len kind) (span-count (record_len kind) list f child below) in
+      keys-total (keys_under kind) (keys_len kind) (keys_long kind) cs ∙ ap (λ (x : ℕ). x * keys_len kind) (span-count (record_len kind) list f child below) in
       let points : pointers_of cs ≡ pointer_bytes below = span-pointers (record_len kind) list f child below in
       let pl : length (pointers_of cs) ≡ length below * 4 = ap length points ∙ pointer-length below in
       record {

@@ -35,7 +35,7 @@ abbrev pub four : Geometry
 four = record { version = 4; blocksize = 512; agblocks = 3; agno = 0; meta_uuid = replicate 16 0; last_lsn = 0 }
 
 four-fits : Fits four
-four-fits = record { agno-fits = omega arith; agblocks-fits = omega arith; uuid-long = refl; uuid-bytes = IsBytes-zeros 16; lsn-fits = omega arith }
+four-fits = record { agno_fits = omega arith; agblocks_fits = omega arith; uuid_long = refl; uuid_bytes = IsBytes-zeros 16; lsn_fits = omega arith }
 
 -- n extents of one block each, on every second block: in order by block and by size
 unfoldable pub spread : ℕ → ℕ → List FreeExtent

@@ -44,7 +44,7 @@ abbrev pub small : Geometry
 small = record { version = 5; blocksize = 512; agblocks = 3; agno = 0; meta_uuid = replicate 16 0; last_lsn = 5 }
 
 pub small-fits : Fits small
-small-fits = record { agno-fits = omega arith; agblocks-fits = omega arith; uuid-long = refl; uuid-bytes = IsBytes-zeros 16; lsn-fits = omega arith }
+small-fits = record { agno_fits = omega arith; agblocks_fits = omega arith; uuid_long = refl; uuid_bytes = IsBytes-zeros 16; lsn_fits = omega arith }
 
 -- n counts of one block each and two owners, on every second block
 unfoldable pub counted : ℕ → ℕ → List Refcount
@@ -55,8 +55,8 @@ counted b (suc n) = record { startblock = b; blockcount = 1; refcount = 2 } ∷ 
 abbrev pub list : List ℕ
 list = bytes_of refcounts (counted 0 39)
 
-list-bytes : IsBytes list
-list-bytes = IsBytes-bytes_of refcounts refcounts-lawful (counted 0 39)
+list_bytes : IsBytes list
+list_bytes = IsBytes-bytes_of refcounts refcounts-lawful (counted 0 39)
 
 abbrev pub numbers : List ℕ
 numbers = 0 ∷ 1 ∷ 2 ∷ []
@@ -91,7 +91,7 @@ long-enough = record { stack = omega arith; scratch = omega arith; blocks = omeg
 -- it comes back, under the number that it was built with and any higher one
 returned-at : (n : ℕ) → 5 ≤ n → Returned (with_lsn small n) kind.Refcount list numbers image room
 returned-at =
-    stored-returned small kind.Refcount list numbers (built_bytes small kind.Refcount list numbers) 1536 small-fits list-bytes small-numbers built (replicate 1536 0) room
+    stored-returned small kind.Refcount list numbers (built_bytes small kind.Refcount list numbers) 1536 small-fits list_bytes small-numbers built (replicate 1536 0) room
     small-places (omega arith) long-enough
 
 returned : Returned small kind.Refcount list numbers image room
@@ -126,7 +126,7 @@ image-bytes : IsBytes image
 unfolding geometry.is_version geometry.is_block_size geometry.geometry_ok
 image-bytes =
     stored_bytes 512 (replicate 1536 0) numbers (built_bytes small kind.Refcount list numbers) (IsBytes-zeros 1536)
-    (built-bytes small kind.Refcount list numbers refl refl small-fits list-bytes)
+    (built-bytes small kind.Refcount list numbers refl refl small-fits list_bytes)
 
 small-linked : says_linked 512 image 2 (walk_of small kind.Refcount image 2 2 room) ≡ true
 unfolding counted bytes.be_bytes records.field_bytes records.bytes_of tree.header_len plan.ceil plan.leaves plan.above plan.levels_of

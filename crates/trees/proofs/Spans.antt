@@ -64,7 +64,7 @@ start-zero n k = omega arith
 
 module _ (t : Layout) (records : List ℕ) (n k : ℕ) where
   abbrev w : ℕ
-  w = t.shape.record-length
+  w = t.shape.record_length
 
   -- leaves
   pub leaves-spanned : (m i : ℕ) (ns : List ℕ) → Spanned w records (start_of n k) i (children_of ns (leaf_parts t (shares_from n k i m) (drop (start_of n k i * w) records)))

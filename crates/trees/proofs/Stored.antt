@@ -56,8 +56,8 @@ module _ (t : Layout) (s : Sized t) where
   leaves-made left [] counts bytes e m = tt
   leaves-made left (n ∷ ns) [] bytes e m = absurd (omega arith)
   leaves-made left (n ∷ ns) (c ∷ counts) bytes e m =
-      let p : List ℕ = take (c * t.shape.record-length) bytes in
-      (block-length t s 0 n (record { left = left; right = next ns }) (leaf_part c p) (leaf-roomy t s c p m.0 (omega (arith, length-take (c * t.shape.record-length) bytes))), refl, leaves-made n ns counts (drop (c * t.shape.record-length) bytes) (omega arith) m.1)
+      let p : List ℕ = take (c * t.shape.record_length) bytes in
+      (block-length t s 0 n (record { left = left; right = next ns }) (leaf_part c p) (leaf-roomy t s c p m.0 (omega (arith, length-take (c * t.shape.record_length) bytes))), refl, leaves-made n ns counts (drop (c * t.shape.record_length) bytes) (omega arith) m.1)
 
   above-made : (level : ℕ) (ks nums : List ℕ) (cs : List Child) → Shaped (per_node t.shape) (length cs) ks → length nums ≡ sum ks → Made t.shape.size (build_above t level ks nums cs) nums
   unfolding build_above sum
@@ -76,7 +76,7 @@ module _ (t : Layout) (s : Sized t) where
   pub build-made : (numbers bytes : List ℕ) → length (plan_of t.shape bytes) ≤ 9 → length numbers ≡ sum (plan_of t.shape bytes) → Made t.shape.size (build t numbers bytes) numbers
   unfolding build build_plan levels_of sum
   build-made numbers bytes few long =
-      let n : ℕ = length bytes / t.shape.record-length in
+      let n : ℕ = length bytes / t.shape.record_length in
       let k : ℕ = leaves (per_leaf t.shape) n in
       let ks : List ℕ = above (per_node t.shape) k 9 in
       let ps : List Part = leaf_parts t (shares n k) bytes in
@@ -84,10 +84,10 @@ module _ (t : Layout) (s : Sized t) where
       let kn : length (take k numbers) ≡ k = length-take-le k numbers (omega arith) in
       let st : length (take k numbers) ≡ length (shares n k) = kn ∙ sym (shares-length n k 0 k) in
       let i : length cs ≡ k = sym (numbers-length cs) ∙ ap length (numbers-of-children (take k numbers) ps (st ∙ sym (leaf-parts-length t (shares n k) bytes))) ∙ kn in
-      let sh : Shaped (per_node t.shape) k ks = above-shaped (per_node t.shape) k 9 s.node-some (leaves-some (per_leaf t.shape) n) (omega arith) in
+      let sh : Shaped (per_node t.shape) k ks = above-shaped (per_node t.shape) k 9 s.node_some (leaves-some (per_leaf t.shape) n) (omega arith) in
       subst (Made t.shape.size (blocks_of t 0 null_ag_block (take k numbers) ps ++ build_above t 1 ks (drop k numbers) cs)) (take-append-drop k numbers)
       (made-append t.shape.size (blocks_of t 0 null_ag_block (take k numbers) ps) (build_above t 1 ks (drop k numbers) cs) (take k numbers) (drop k numbers)
-      (leaves-made null_ag_block (take k numbers) (shares n k) bytes st (shares-most n k 0 k (per_leaf t.shape) (leaves-some (per_leaf t.shape) n) (leaves-room (per_leaf t.shape) n s.leaf-some)))
+      (leaves-made null_ag_block (take k numbers) (shares n k) bytes st (shares-most n k 0 k (per_leaf t.shape) (leaves-some (per_leaf t.shape) n) (leaves-room (per_leaf t.shape) n s.leaf_some)))
       (above-made 1 ks (drop k numbers) cs (subst (λ (x : ℕ). Shaped (per_node t.shape) x ks) (sym i) sh) (omega (arith, length-drop k numbers))))
 
 -- ---- blocks stored in an image

@@ -51,24 +51,24 @@ first-bytes : (w : ℕ) (b : List ℕ) → IsBytes b → IsBytes (first_key w b)
 unfolding first_key
 first-bytes w b h = padded-bytes w (take w b) (IsBytes-take w b h)
 
-pub keys-long : (kind : TreeKind) (b : List ℕ) → length (keys_under kind b) ≡ keys_len kind
+pub keys_long : (kind : TreeKind) (b : List ℕ) → length (keys_under kind b) ≡ keys_len kind
 unfolding keys_under
-keys-long kind b = go (overlapping kind) refl
+keys_long kind b = go (overlapping kind) refl
   where
     go : (t : Bool) → overlapping kind ≡ t → length (cond t (rmap_keys (records_of rmaps b)) (first_key (keys_len kind) b)) ≡ keys_len kind
     go true e = rmap-long (records_of rmaps b) ∙ ap keys_len (sym (overlapping-is kind e))
     go false e = first-long (keys_len kind) b
 
-keys-bytes : (kind : TreeKind) (b : List ℕ) → IsBytes b → IsBytes (keys_under kind b)
+keys_bytes : (kind : TreeKind) (b : List ℕ) → IsBytes b → IsBytes (keys_under kind b)
 unfolding keys_under
-keys-bytes kind b h = go (overlapping kind)
+keys_bytes kind b h = go (overlapping kind)
   where
     go : (t : Bool) → IsBytes (cond t (rmap_keys (records_of rmaps b)) (first_key (keys_len kind) b))
     go true = rmap-bytes (records_of rmaps b)
     go false = first-bytes (keys_len kind) b h
 
-pub record-some : (kind : TreeKind) → 0 < record_len kind
-record-some kind = omega (arith, (bounded kind).record-least)
+pub record_some : (kind : TreeKind) → 0 < record_len kind
+record_some kind = omega (arith, (bounded kind).record-least)
 
 module _ (g : Geometry) (kind : TreeKind) (ok : geometry_ok g ≡ true) (tree : has_tree kind g.version ≡ true) where
   abbrev t : Layout
@@ -99,20 +99,20 @@ module _ (g : Geometry) (kind : TreeKind) (ok : geometry_ok g ≡ true) (tree : 
       let of = bounded kind in
       let big : 512 ≤ g.blocksize = (blocksize-within g ok).0 in
       record {
-        header-fits = omega (arith, header-within);
-        record-some = record-some kind;
-        leaf-some = (le-div_iff_mul-le (record-some kind)).1 (omega (arith, header-within, of.record-most));
-        node-some = (let p : 0 < keys_len kind + 4 = omega arith in (le-div_iff_mul-le p).1 (omega (arith, header-within)));
-        keys-long = keys-long kind;
-        stamp-long = λ block level n x b e. stamped-length g kind block level n x.left x.right b uuid (long b e) ∙ e;
+        header_fits = omega (arith, header-within);
+        record_some = record_some kind;
+        leaf_some = (le-div_iff_mul-le (record_some kind)).1 (omega (arith, header-within, of.record-most));
+        node_some = (let p : 0 < keys_len kind + 4 = omega arith in (le-div_iff_mul-le p).1 (omega (arith, header-within)));
+        keys_long = keys_long kind;
+        stamp_long = λ block level n x b e. stamped-length g kind block level n x.left x.right b uuid (long b e) ∙ e;
       }
 
   -- a stamped block passes the check, which hands back its neighbours
   stamp-accepted : Fits g → (block level n : ℕ) (x : Links) (b : List ℕ) → Fresh t.shape block level n x b
       → check_block g kind block level (t.stamp block level n x b) ≡ done (header_says g kind level n x.left x.right (length b))
   stamp-accepted fits block level n x b f =
-      stamped-passes g kind block level n x.left x.right b fits (long b f.long) f.are-bytes ok tree f.number_fits (omega (arith, f.level-fits))
-      (count_small level n f.most) f.left-fits f.right-fits (subst (λ (y : ℕ). n ≤ y) (room-is level (length b) f.long) f.most)
+      stamped-passes g kind block level n x.left x.right b fits (long b f.long) f.are_bytes ok tree f.number_fits (omega (arith, f.level_fits))
+      (count_small level n f.most) f.left_fits f.right_fits (subst (λ (y : ℕ). n ≤ y) (room-is level (length b) f.long) f.most)
 
   -- its siblings stand where the check reads them
   stamp-says : Fits g → (block level n : ℕ) (x : Links) (b : List ℕ) → Fresh t.shape block level n x b
@@ -124,10 +124,10 @@ module _ (g : Geometry) (kind : TreeKind) (ok : geometry_ok g ≡ true) (tree : 
   sound fits =
       let big : 512 ≤ g.blocksize = (blocksize-within g ok).0 in
       record {
-        sized = sized fits.uuid-long;
-        keys-bytes = keys-bytes kind;
-        stamp-body = λ block level n x b e. stamped-body g kind block level n x.left x.right b fits (long b e) (header_len g.version) (omega arith);
-        stamp-passes = λ block level n x b f. ap numrecs_of (stamp-accepted fits block level n x b f);
-        stamp-left = λ block level n x b f. sym (stamp-says fits block level n x b f).leftsib-is;
-        stamp-right = λ block level n x b f. sym (stamp-says fits block level n x b f).rightsib-is;
+        sized = sized fits.uuid_long;
+        keys_bytes = keys_bytes kind;
+        stamp_body = λ block level n x b e. stamped-body g kind block level n x.left x.right b fits (long b e) (header_len g.version) (omega arith);
+        stamp_passes = λ block level n x b f. ap numrecs_of (stamp-accepted fits block level n x b f);
+        stamp_left = λ block level n x b f. sym (stamp-says fits block level n x b f).leftsib-is;
+        stamp_right = λ block level n x b f. sym (stamp-says fits block level n x b f).rightsib-is;
       }

@@ -259,7 +259,7 @@ module _ (g : Geometry) (kind : TreeKind) (list levels numbers before : List ℕ
     pub begun : Begun
     begun =
         let n : ℕ = length list / record_len kind in
-        let sh : Shaped per k₀ ks₀ = above-shaped per k₀ 9 z.node-some (leaves-some (per_leaf t.shape) n) (omega (arith, q.few, ap length levels-are)) in
+        let sh : Shaped per k₀ ks₀ = above-shaped per k₀ 9 z.node_some (leaves-some (per_leaf t.shape) n) (omega (arith, q.few, ap length levels-are)) in
         let same : levels_above g kind list levels numbers ≡ above_from 0 0 (get_or levels 0 0) = rw sub-zero refl in
         record {
           some_level = omega (arith, ap length levels-are);
@@ -295,7 +295,7 @@ module _ (g : Geometry) (kind : TreeKind) (list levels numbers before : List ℕ
         let cut : take (k - 0) (drop 0 numbers) ≡ take k numbers = rw sub-zero refl in
         let len : length (take k numbers) ≡ k = length-take-le k numbers le in
         let some : 0 < k = omega (arith, leaves-some (per_leaf t.shape) n) in
-        let room : n ≤ k * per_leaf t.shape = subst (λ (x : ℕ). n ≤ x * per_leaf t.shape) (sym kk) (leaves-room (per_leaf t.shape) n z.leaf-some) in
+        let room : n ≤ k * per_leaf t.shape = subst (λ (x : ℕ). n ≤ x * per_leaf t.shape) (sym kk) (leaves-room (per_leaf t.shape) n z.leaf_some) in
         let X : List Block = blocks_of t 0 null_ag_block (take k numbers) (leaf_parts t (shares n k) list) in
         let made : Made size X (take k numbers) =
         leaves-made t z null_ag_block (take k numbers) (shares n k) list (len ∙ sym (shares-length n k 0 k)) (shares-most n k 0 k (per_leaf t.shape) some room) in
@@ -366,7 +366,7 @@ module _ (g : Geometry) (kind : TreeKind) (list levels numbers before : List ℕ
       cut = ap (λ (x : ℕ). take x (drop base numbers)) (add-sub_cancel_left base k)
 
       planned : Planned (length list / record_len kind) levels l
-      planned = plan-planned (per_leaf t.shape) per (length list / record_len kind) l levels z.leaf-some z.node-some q.plan h
+      planned = plan-planned (per_leaf t.shape) per (length list / record_len kind) l levels z.leaf_some z.node_some q.plan h
 
       ends : (base + k) * size ≤ length before
       ends = let le : base + k ≤ length numbers = omega (arith, left-next) in omega (arith, mul-le-mul_right size le, q.long)

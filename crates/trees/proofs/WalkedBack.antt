@@ -61,12 +61,12 @@ returned look limit plan numbers bytes root ss f i b tops v h =
     })
 
 module _ (t : Layout) (s : Sound t) (image : List ℕ) where
-  plan-returned : (k : ℕ) (ks numbers bytes : List ℕ) (n limit : ℕ) → 0 < k → n ≤ k * per_leaf t.shape → Shaped (per_node t.shape) k ks → length ks ≤ 9 → length numbers ≡ k + sum ks → AreNumbers numbers → IsBytes bytes → length bytes ≡ n * t.shape.record-length
+  plan-returned : (k : ℕ) (ks numbers bytes : List ℕ) (n limit : ℕ) → 0 < k → n ≤ k * per_leaf t.shape → Shaped (per_node t.shape) k ks → length ks ≤ 9 → length numbers ≡ k + sum ks → AreNumbers numbers → IsBytes bytes → length bytes ≡ n * t.shape.record_length
       → Held t image (build_plan t (k ∷ ks) numbers bytes) → length numbers ≤ limit
       → Back (k ∷ ks) numbers bytes (run (look_in t.shape image) limit (visit_of (root_of numbers) (suc (length ks) - 1) ∷ []))
   unfolding build_plan
   plan-returned k ks numbers bytes n limit some room shaped few long small bytes-are are holds most =
-      let q : length bytes / t.shape.record-length ≡ n = ap (λ (x : ℕ). x / t.shape.record-length) are ∙ mul-div_cancel n s.sized.record-some in
+      let q : length bytes / t.shape.record_length ≡ n = ap (λ (x : ℕ). x / t.shape.record_length) are ∙ mul-div_cancel n s.sized.record_some in
       let ps : List Part = leaf_parts t (shares n k) bytes in
       let cs : List Child = children_of (take k numbers) ps in
       let held : Held t image (blocks_of t 0 null_ag_block (take k numbers) ps ++ build_above t 1 ks (drop k numbers) cs) = rw q at holds in
@@ -74,7 +74,7 @@ module _ (t : Layout) (s : Sound t) (image : List ℕ) where
       let kn : length (take k numbers) ≡ k = length-take-le k numbers (omega arith) in
       let j : numbers_of cs ≡ take k numbers = numbers-of-children (take k numbers) ps (kn ∙ sym (shares-length n k 0 k) ∙ sym (leaf-parts-length t (shares n k) bytes)) in
       let i : length cs ≡ k = sym (numbers-length cs) ∙ ap length j ∙ kn in
-      let sw : sum (shares n k) * t.shape.record-length ≤ length bytes = rw (shares_sum n k some) (omega arith) in
+      let sw : sum (shares n k) * t.shape.record_length ≤ length bytes = rw (shares_sum n k some) (omega arith) in
       let v : Tree t (look_in t.shape image) (k ∷ ks) numbers bytes =
       tree t (look_in t.shape image) (per_node t.shape) k ks numbers bytes n some shaped long are
       (leaves-seen t s image null_ag_block (take k numbers) (shares n k) bytes (omega arith) (numbers-take k numbers small) bytes-are (shares-most n k 0 k (per_leaf t.shape) some room) sw b.0)
@@ -83,7 +83,7 @@ module _ (t : Layout) (s : Sound t) (image : List ℕ) where
 
   -- the tree that is built over as many blocks as planned is walked back, from any image that holds it
   pub built-returned : (numbers bytes : List ℕ) (n limit : ℕ)
-      → length bytes ≡ n * t.shape.record-length
+      → length bytes ≡ n * t.shape.record_length
       → length (plan_of t.shape bytes) ≤ 9
       → length numbers ≡ sum (plan_of t.shape bytes)
       → AreNumbers numbers
@@ -93,10 +93,10 @@ module _ (t : Layout) (s : Sound t) (image : List ℕ) where
       → Back (plan_of t.shape bytes) numbers bytes (run (look_in t.shape image) limit (visit_of (root_of numbers) (length (plan_of t.shape bytes) - 1) ∷ []))
   unfolding build levels_of sum
   built-returned numbers bytes n limit are few long small bytes-are holds most =
-      let q : length bytes / t.shape.record-length ≡ n = ap (λ (x : ℕ). x / t.shape.record-length) are ∙ mul-div_cancel n s.sized.record-some in
-      let m : ℕ = length bytes / t.shape.record-length in
+      let q : length bytes / t.shape.record_length ≡ n = ap (λ (x : ℕ). x / t.shape.record_length) are ∙ mul-div_cancel n s.sized.record_some in
+      let m : ℕ = length bytes / t.shape.record_length in
       let k : ℕ = leaves (per_leaf t.shape) m in
-      let room : n ≤ k * per_leaf t.shape = omega (arith, leaves-room (per_leaf t.shape) m s.sized.leaf-some) in
+      let room : n ≤ k * per_leaf t.shape = omega (arith, leaves-room (per_leaf t.shape) m s.sized.leaf_some) in
       plan-returned k (above (per_node t.shape) k 9) numbers bytes n limit (leaves-some (per_leaf t.shape) m) room
-      (above-shaped (per_node t.shape) k 9 s.sized.node-some (leaves-some (per_leaf t.shape) m) (omega arith))
+      (above-shaped (per_node t.shape) k 9 s.sized.node_some (leaves-some (per_leaf t.shape) m) (omega arith))
       (omega arith) long small bytes-are are holds most

@@ -25,20 +25,20 @@ capacity s (suc level) = per_node s
 
 -- what build asks of a layout: a block holds something, and keys and stamped blocks have their lengths
 pub record Sized (t : Layout) : Type 0 where
-  pub header-fits : t.shape.header ≤ t.shape.size
-  pub record-some : 0 < t.shape.record-length
-  pub leaf-some : 0 < per_leaf t.shape
-  pub node-some : 0 < per_node t.shape
-  pub keys-long : (records : List ℕ) → length (t.keys records) ≡ t.shape.keys_length
-  pub stamp-long : (block level n : ℕ) (x : Links) (b : List ℕ) → length b ≡ t.shape.size → length (t.stamp block level n x b) ≡ t.shape.size
+  pub header_fits : t.shape.header ≤ t.shape.size
+  pub record_some : 0 < t.shape.record_length
+  pub leaf_some : 0 < per_leaf t.shape
+  pub node_some : 0 < per_node t.shape
+  pub keys_long : (records : List ℕ) → length (t.keys records) ≡ t.shape.keys_length
+  pub stamp_long : (block level n : ℕ) (x : Links) (b : List ℕ) → length b ≡ t.shape.size → length (t.stamp block level n x b) ≡ t.shape.size
 
 -- a block to stamp: its number, its level and its neighbours fit their fields, it is as long as a block, and holds no more than a block does
 pub record Fresh (s : Shape) (block level n : ℕ) (x : Links) (b : List ℕ) : Type 0 where
   pub number_fits : block < 2 ^ 32
-  pub level-fits : level ≤ 9
-  pub left-fits : x.left < 2 ^ 32
-  pub right-fits : x.right < 2 ^ 32
-  pub are-bytes : IsBytes b
+  pub level_fits : level ≤ 9
+  pub left_fits : x.left < 2 ^ 32
+  pub right_fits : x.right < 2 ^ 32
+  pub are_bytes : IsBytes b
   pub long : length b ≡ s.size
   pub most : n ≤ capacity s level
 
@@ -46,10 +46,10 @@ pub record Fresh (s : Shape) (block level n : ℕ) (x : Links) (b : List ℕ) : 
 -- its neighbours
 pub record Sound (t : Layout) : Type 0 where
   pub sized : Sized t
-  pub keys-bytes : (records : List ℕ) → IsBytes records → IsBytes (t.keys records)
-  pub stamp-body : (block level n : ℕ) (x : Links) (b : List ℕ) → length b ≡ t.shape.size
+  pub keys_bytes : (records : List ℕ) → IsBytes records → IsBytes (t.keys records)
+  pub stamp_body : (block level n : ℕ) (x : Links) (b : List ℕ) → length b ≡ t.shape.size
       → drop t.shape.header (t.stamp block level n x b) ≡ drop t.shape.header b
-  pub stamp-passes : (block level n : ℕ) (x : Links) (b : List ℕ) → Fresh t.shape block level n x b
+  pub stamp_passes : (block level n : ℕ) (x : Links) (b : List ℕ) → Fresh t.shape block level n x b
       → t.shape.check block level (t.stamp block level n x b) ≡ done n
-  pub stamp-left : (block level n : ℕ) (x : Links) (b : List ℕ) → Fresh t.shape block level n x b → leftsib_in (t.stamp block level n x b) ≡ x.left
-  pub stamp-right : (block level n : ℕ) (x : Links) (b : List ℕ) → Fresh t.shape block level n x b → rightsib_in (t.stamp block level n x b) ≡ x.right
+  pub stamp_left : (block level n : ℕ) (x : Links) (b : List ℕ) → Fresh t.shape block level n x b → leftsib_in (t.stamp block level n x b) ≡ x.left
+  pub stamp_right : (block level n : ℕ) (x : Links) (b : List ℕ) → Fresh t.shape block level n x b → rightsib_in (t.stamp block level n x b) ≡ x.right

@@ -57,7 +57,7 @@ node_part t cs =
 unfoldable pub leaf_parts : Layout → List ℕ → List ℕ → List Part
 leaf_parts t [] bytes = []
 leaf_parts t (n ∷ ns) bytes =
-    leaf_part n (take (n * t.shape.record-length) bytes) ∷ leaf_parts t ns (drop (n * t.shape.record-length) bytes)
+    leaf_part n (take (n * t.shape.record_length) bytes) ∷ leaf_parts t ns (drop (n * t.shape.record_length) bytes)
 
 unfoldable pub node_parts : Layout → List ℕ → List Child → List Part
 node_parts t [] cs = []
@@ -91,11 +91,11 @@ build_above t level (k ∷ ks) numbers cs =
 unfoldable pub build_plan : Layout → List ℕ → List ℕ → List ℕ → List Block
 build_plan t [] numbers bytes = []
 build_plan t (k ∷ ks) numbers bytes =
-    let parts : List Part = leaf_parts t (shares (length bytes / t.shape.record-length) k) bytes in
+    let parts : List Part = leaf_parts t (shares (length bytes / t.shape.record_length) k) bytes in
     blocks_of t 0 null_ag_block (take k numbers) parts ++ build_above t 1 ks (drop k numbers) (children_of (take k numbers) parts)
 
 abbrev pub plan_of : Shape → List ℕ → List ℕ
-plan_of s bytes = levels_of (per_leaf s) (per_node s) (length bytes / s.record-length)
+plan_of s bytes = levels_of (per_leaf s) (per_node s) (length bytes / s.record_length)
 
 -- the blocks of the tree, leaves first and root last
 unfoldable pub build : Layout → List ℕ → List ℕ → List Block

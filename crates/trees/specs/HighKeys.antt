@@ -12,7 +12,7 @@ pub record LastBlock (r : Rmap) (k : RmapKey) : Type 0 where
   pub owner : k.owner ≡ r.owner
   pub flags : k.offset / off_limit ≡ flags r
   pub file : exempt r ≡ false → k.offset % off_limit + 1 ≡ file_offset r + r.blockcount
-  pub no-file : exempt r ≡ true → k.offset ≡ r.offset
+  pub no_file : exempt r ≡ true → k.offset ≡ r.offset
 
 -- "A high key adds count − 1 to the start, and to the file offset unless the owner is reserved or bit 62 is set": so it is the key of the
 -- record's last block, and the sum does not reach the flags
@@ -37,7 +37,7 @@ pub record IsHighest (rs : List Rmap) (k : RmapKey) : Type 0 where
   pub stands : rs ≡ before ++ (top ∷ later)
   pub key : k ≡ high_key top
   pub none_above : NoneAbove k rs
-  pub later-below : AllBelow k later
+  pub later_below : AllBelow k later
 
 -- "the greatest high key under the child, by start, owner as unsigned, file offset; the last of equals": of the records under a child, of which
 -- there is one at least

@@ -51,12 +51,12 @@ module _ (w levels : ℕ) (t : Trace) (stack stack₁ stack' scratch scratch₁ 
       (record {
         answer = e;
         stack_is = zs ∙ ap (λ (k : ℕ). replicate k 0) ls;
-        scratch-is = zc ∙ ap (λ (k : ℕ). replicate k 0) lc;
-        blocks-are =
+        scratch_is = zc ∙ ap (λ (k : ℕ). replicate k 0) lc;
+        blocks_are =
             g
             ∙ ap (λ (vs : List Visit). with_bytes blocks 0 (by_level levels vs)) f.0
             ∙ sym (finished-is w (length (visits t)) (length (records t)) t _ _ (with_bytes blocks 0 (by_level levels (visits t))) (zeros blocks) (sym e));
-        records-are = f.1 ∙ sym (finished-is w (length (visits t)) (length (records t)) t _ _ (with_bytes out 0 (records t)) (zeros out) (sym e));
+        records_are = f.1 ∙ sym (finished-is w (length (visits t)) (length (records t)) t _ _ (with_bytes out 0 (records t)) (zeros out) (sym e));
       })
 
   pub call-refused : (r : Walked) (f : WalkRefusal) (v : ℕ) (out' : List ℕ) → r ≡ Refused f v → walked_report r ≡ report w (done t) → length out₁ ≡ length out
@@ -66,9 +66,9 @@ module _ (w levels : ℕ) (t : Trace) (stack stack₁ stack' scratch scratch₁ 
       record {
         answer = e;
         stack_is = zs ∙ ap (λ (k : ℕ). replicate k 0) ls;
-        scratch-is = zc ∙ ap (λ (k : ℕ). replicate k 0) lc;
-        blocks-are = zb ∙ sym (refused-is w (length (visits t)) (length (records t)) t _ _ _ (with_bytes blocks 0 (by_level levels (visits t))) (zeros blocks) u);
-        records-are =
+        scratch_is = zc ∙ ap (λ (k : ℕ). replicate k 0) lc;
+        blocks_are = zb ∙ sym (refused-is w (length (visits t)) (length (records t)) t _ _ _ (with_bytes blocks 0 (by_level levels (visits t))) (zeros blocks) u);
+        records_are =
             zo
             ∙ ap (λ (k : ℕ). replicate k 0) lo
             ∙ sym (refused-is w (length (visits t)) (length (records t)) t _ _ _ (with_bytes out 0 (records t)) (zeros out) u);
@@ -77,7 +77,7 @@ module _ (w levels : ℕ) (t : Trace) (stack stack₁ stack' scratch scratch₁ 
 -- a call that 1, 11 or 12 refuses touches nothing
 pub untouched : (w levels : ℕ) (o : Outcome Trace) (f : WalkRefusal) (stack scratch blocks out : List ℕ) → o ≡ refused (walk_number f) (walk_values f)
     → WalkIs w levels o (Refused f 0) stack stack scratch scratch blocks blocks out out
-untouched w levels o f stack scratch blocks out e = rw e (record { answer = refl; stack_is = refl; scratch-is = refl; blocks-are = refl; records-are = refl })
+untouched w levels o f stack scratch blocks out e = rw e (record { answer = refl; stack_is = refl; scratch_is = refl; blocks_are = refl; records_are = refl })
 
 -- and says no
 pub untouched-linking : (size w : ℕ) (image : List ℕ) (levels : ℕ) (o : Outcome Trace) (f : WalkRefusal) (r : Linking) (stack scratch blocks out : List ℕ)

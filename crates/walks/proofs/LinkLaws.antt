@@ -136,7 +136,7 @@ module _ (left right : ℕ → ℕ) where
       let small : right v.block < 2 ^ 32 = subst (λ (x : ℕ). x < 2 ^ 32) er f.small in
       let fit : Bool = joins (get_or before v.level 0) (get_or named v.level 0) v.block (left v.block) in
       let b : before' ≡ set before v.level v.block = f.block_held in
-      let m : named' ≡ set named v.level (right v.block) = f.name-held ∙ ap (set named v.level) er in
+      let m : named' ≡ set named v.level (right v.block) = f.name_held ∙ ap (set named v.level) er in
       let t : so' ≡ (so && fit) = f.follows ∙ ap (λ (x : ℕ). so && joins (get_or before v.level 0) (get_or named v.level 0) v.block x) el in
       record {
         blocks = ap length b ∙ length-set before v.level v.block ∙ c.blocks;

@@ -19,7 +19,7 @@ use Rattle.blocks.specs.declared.check.Header.{Header}
 use Rattle.blocks.specs.Geometry.{geometry_ok}
 use Rattle.blocks.specs.Tree.{header_len, record_len, keys_len, place_len, capacity}
 use Rattle.blocks.specs.Check.{check_block}
-use Rattle.blocks.proofs.Laws.{place-above, places-fit, capacity-some, capacity-small, header-fits}
+use Rattle.blocks.proofs.Laws.{place-above, places-fit, capacity-some, capacity-small, header_fits}
 use Rattle.blocks.proofs.Accepted.{Accepted, accepted}
 use Rattle.walks.specs.Walk.{Visit, visit_of, Look, bad, good, pointers, Shape, per_node, block_in, first_pointer, under, look_of, look_in}
 use Rattle.walks.specs.Shapes.{numrecs_of, shape_of, header_in}
@@ -50,8 +50,8 @@ module _ (s : Shape) (image : List ℕ) (block level : ℕ) where
   look-good n h k = look-checked h ∙ ap (λ (o : Outcome ℕ). look_of (map_outcome (under s (block_in s.size image block) level) o)) k
 
   -- the part of the image that the code takes is the block
-  pub part-is : take (block * s.size + s.size - block * s.size) (drop (block * s.size) image) ≡ block_in s.size image block
-  part-is =
+  pub part_is : take (block * s.size + s.size - block * s.size) (drop (block * s.size) image) ≡ block_in s.size image block
+  part_is =
       ap (λ (k : ℕ). take k (drop (block * s.size) image)) (add-sub_cancel_left (block * s.size) s.size)
       ∙ sym (bytes_at-is image (block * s.size) s.size)
 
@@ -59,7 +59,7 @@ module _ (s : Shape) (image : List ℕ) (block level : ℕ) where
   part-long h = length-bytes_at image (block * s.size) s.size h
 
 module _ (s : Shape) (part : List ℕ) (level n : ℕ) where
-  pub under-leaf : level ≡ 0 → under s part level n ≡ good [] (bytes_at part s.header (n * s.record-length))
+  pub under-leaf : level ≡ 0 → under s part level n ≡ good [] (bytes_at part s.header (n * s.record_length))
   unfolding under
   under-leaf z = rw z
 
@@ -74,8 +74,8 @@ start_small block size b s = let k : block ≤ 2 ^ 32 = omega arith in mul-le-mu
 -- ---- over the trees of a group
 
 module _ (g : Geometry) (kind : TreeKind) (ok : geometry_ok g ≡ true) where
-  pub node-some : 10 ≤ per_node (shape_of g kind)
-  node-some = capacity-some g kind 1 ok
+  pub node_some : 10 ≤ per_node (shape_of g kind)
+  node_some = capacity-some g kind 1 ok
 
   pub node-small : per_node (shape_of g kind) ≤ 8192
   node-small = capacity-small g kind 1 ok
@@ -84,7 +84,7 @@ module _ (g : Geometry) (kind : TreeKind) (ok : geometry_ok g ≡ true) where
   pub pointers-inside : (n : ℕ) → n ≤ per_node (shape_of g kind) → first_pointer (shape_of g kind) + n * 4 ≤ g.blocksize
   pointers-inside n h =
       let c : ℕ = per_node (shape_of g kind) in
-      let k : header_len g.version + c * (keys_len kind + 4) ≤ g.blocksize = places-fit kind g.version 1 g.blocksize c (header-fits g kind 1 ok) (le_refl c) in
+      let k : header_len g.version + c * (keys_len kind + 4) ≤ g.blocksize = places-fit kind g.version 1 g.blocksize c (header_fits g kind 1 ok) (le_refl c) in
       let m : c * (keys_len kind + 4) ≡ c * keys_len kind + c * 4 = mul-add c (keys_len kind) 4 in
       omega arith
 

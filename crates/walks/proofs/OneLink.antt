@@ -152,7 +152,7 @@ pointers-same part part' level at (suc n) h =
 
 under_same : (s : Shape) (part part' : List ℕ) (level n : ℕ) → ((k : ℕ) → s.header ≤ k → drop k part' ≡ drop k part) → under s part' level n ≡ under s part level n
 unfolding under bytes_at
-under_same s part part' zero n h = ap (λ (l : List ℕ). good [] (take (n * s.record-length) l)) (h s.header (omega arith))
+under_same s part part' zero n h = ap (λ (l : List ℕ). good [] (take (n * s.record_length) l)) (h s.header (omega arith))
 under_same s part part' (suc level) n h = ap (λ (l : List Visit). good l []) (pointers-same part part' level (first_pointer s) n (λ k q. h k (omega arith)))
 
 -- ---- the image with one block named anew

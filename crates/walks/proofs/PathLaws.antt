@@ -16,7 +16,7 @@ use Rattle.blocks.specs.declared.geometry.Geometry.{Geometry}
 use Rattle.blocks.specs.declared.kind.TreeKind.{TreeKind}
 use Rattle.blocks.specs.Geometry.{geometry_ok}
 use Rattle.blocks.specs.Tree.{header_len, keys_len}
-use Rattle.blocks.proofs.Laws.{places-fit, header-fits, blocksize-within}
+use Rattle.blocks.proofs.Laws.{places-fit, header_fits, blocksize-within}
 use Rattle.walks.specs.Walk.{Visit, visit_of, Shape, per_node, block_in, first_pointer}
 use Rattle.walks.specs.Shapes.{shape_of}
 use Rattle.walks.specs.WalkCall.{stack_places}
@@ -36,7 +36,7 @@ module _ (g : Geometry) (kind : TreeKind) (ok : geometry_ok g ≡ true) where
 
   node-fits : header_len g.version + c * keys_len kind + c * 4 ≤ g.blocksize
   node-fits =
-      let k : header_len g.version + c * (keys_len kind + 4) ≤ g.blocksize = places-fit kind g.version 1 g.blocksize c (header-fits g kind 1 ok) (le_refl c) in
+      let k : header_len g.version + c * (keys_len kind + 4) ≤ g.blocksize = places-fit kind g.version 1 g.blocksize c (header_fits g kind 1 ok) (le_refl c) in
       let m : c * (keys_len kind + 4) ≡ c * keys_len kind + c * 4 = mul-add c (keys_len kind) 4 in
       omega arith
 

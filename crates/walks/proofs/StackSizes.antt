@@ -26,7 +26,7 @@ use Rattle.walks.specs.WalkAnswer.{WalkIs}
 use Rattle.walks.specs.declared.walk.Walked.{Walked}
 use Rattle.walks.specs.declared.walk.Walked.TheVariants.{Refused}
 use Rattle.walks.specs.declared.refusal.WalkRefusal.TheVariants as why
-use Rattle.walks.proofs.LookLaws.{node-some}
+use Rattle.walks.proofs.LookLaws.{node_some}
 
 -- what follows 1, 11 and 12 is the same on nine pairs and on the larger stack
 pub larger-same : {A : Type 0} (g : Geometry) (kind : TreeKind) (levels : ℕ) (m : Lent) (places : ℕ) (o : Outcome A) → stack_places ≤ m.stack → larger_stack g kind levels ≤ places
@@ -43,9 +43,9 @@ pub alike : (w levels : ℕ) (o o' : Outcome Trace) (r r' : Walked) (pairs pairs
 alike w levels o o' r r' pairs pairs' larger larger' scratch scratch₁ scratch₂ blocks blocks₁ blocks₂ out out₁ out₂ e p q =
     record {
       answers = p.answer ∙ ap (report w) e ∙ sym q.answer;
-      scratches = p.scratch-is ∙ ap (λ (x : Outcome Trace). scratch_after x scratch) e ∙ sym q.scratch-is;
-      block-lists = p.blocks-are ∙ ap (λ (x : Outcome Trace). blocks_after levels x blocks) e ∙ sym q.blocks-are;
-      record-lists = p.records-are ∙ ap (λ (x : Outcome Trace). records_after x out) e ∙ sym q.records-are;
+      scratches = p.scratch_is ∙ ap (λ (x : Outcome Trace). scratch_after x scratch) e ∙ sym q.scratch_is;
+      block_lists = p.blocks_are ∙ ap (λ (x : Outcome Trace). blocks_after levels x blocks) e ∙ sym q.blocks_are;
+      record_lists = p.records_are ∙ ap (λ (x : Outcome Trace). records_after x out) e ∙ sym q.records_are;
     }
 
 pub every-alike : EveryAlike
@@ -57,7 +57,7 @@ every-alike g kind image root levels pairs pairs' larger larger' scratch blocks 
 larger-deep : (g : Geometry) (kind : TreeKind) (levels stack : ℕ) → geometry_ok g ≡ true → 1 ≤ levels → larger_stack g kind levels ≤ stack → stack_places ≤ stack
 larger-deep g kind levels stack ok some h =
     let most : ℕ = per_node (shape_of g kind) in
-    let m : 1 * 10 ≤ levels * most = mul-le-mul some (node-some g kind ok) in
+    let m : 1 * 10 ≤ levels * most = mul-le-mul some (node_some g kind ok) in
     let e : levels * most * 2 ≡ 2 * levels * most = mul_comm (levels * most) 2 ∙ sym (mul_assoc 2 levels most) in
     omega arith
 
@@ -129,5 +129,5 @@ unfolding tree.header_len geometry.is_version geometry.is_block_size geometry.ge
 outside-alike =
     every-alike narrow kind.Rmap [] 0 1 (replicate 18 7) (replicate 18 0) (replicate 20 7) (replicate 20 0) filled filled filled (omega arith) (omega arith)
     (Refused why.Outside 1) (Refused why.Outside 1) (0 ∷ []) (0 ∷ []) (0 ∷ []) (0 ∷ []) (0 ∷ []) (0 ∷ [])
-    (record { answer = refl; stack_is = refl; scratch-is = refl; blocks-are = refl; records-are = refl })
-    (record { answer = refl; stack_is = refl; scratch-is = refl; blocks-are = refl; records-are = refl })
+    (record { answer = refl; stack_is = refl; scratch_is = refl; blocks_are = refl; records_are = refl })
+    (record { answer = refl; stack_is = refl; scratch_is = refl; blocks_are = refl; records_are = refl })

@@ -36,8 +36,8 @@ EveryStack =
 pub record Alike (r r' : Walked) (scratch scratch' blocks blocks' out out' : List ℕ) : Type 0 where
   pub answers : walked_report r ≡ walked_report r'
   pub scratches : scratch ≡ scratch'
-  pub block-lists : blocks ≡ blocks'
-  pub record-lists : out ≡ out'
+  pub block_lists : blocks ≡ blocks'
+  pub record_lists : out ≡ out'
 
 -- So a caller of both, lending the same but for the stacks, sees the records, block list, refusals and visits of the larger stack.
 abbrev pub EveryAlike : Type 0

@@ -18,7 +18,7 @@ shape_of g kind =
     record {
       size = g.blocksize;
       header = header_len g.version;
-      record-length = record_len kind;
+      record_length = record_len kind;
       keys_length = keys_len kind;
       check = λ block level b. numrecs_of (check_block g kind block level b);
     }

@@ -92,13 +92,13 @@ by_level (suc n) vs = by_level n vs ++ at_level n vs
 pub record Shape : Type 0 where
   pub size : ℕ
   pub header : ℕ
-  pub record-length : ℕ
+  pub record_length : ℕ
   pub keys_length : ℕ
   pub check : ℕ → ℕ → List ℕ → Outcome ℕ
 
 -- how many records a leaf holds, and how many entries a node: an entry is its keys and a pointer
 abbrev pub per_leaf : Shape → ℕ
-per_leaf s = (s.size - s.header) / s.record-length
+per_leaf s = (s.size - s.header) / s.record_length
 
 abbrev pub per_node : Shape → ℕ
 per_node s = (s.size - s.header) / (s.keys_length + ptr_len)
@@ -118,7 +118,7 @@ pointers part at level (suc n) = visit_of (be_of (bytes_at part at ptr_len)) lev
 
 -- what is under a block of so many records whose header is good: records in a leaf, blocks in a node
 unfoldable pub under : Shape → List ℕ → ℕ → ℕ → Look
-under s part zero n = good [] (bytes_at part s.header (n * s.record-length))
+under s part zero n = good [] (bytes_at part s.header (n * s.record_length))
 under s part (suc level) n = good (pointers part (first_pointer s) level n) []
 
 abbrev pub look_of : Outcome Look → Look

@@ -43,6 +43,6 @@ walked_report (Refused r visits) = record { outcome = refused (walk_number r) (w
 pub record WalkIs (w levels : ℕ) (o : Outcome Trace) (r : Walked) (stack stack' scratch scratch' blocks blocks' out out' : List ℕ) : Type 0 where
   pub answer : walked_report r ≡ report w o
   pub stack_is : stack' ≡ scratch_after o stack
-  pub scratch-is : scratch' ≡ scratch_after o scratch
-  pub blocks-are : blocks' ≡ blocks_after levels o blocks
-  pub records-are : out' ≡ records_after o out
+  pub scratch_is : scratch' ≡ scratch_after o scratch
+  pub blocks_are : blocks' ≡ blocks_after levels o blocks
+  pub records_are : out' ≡ records_after o out

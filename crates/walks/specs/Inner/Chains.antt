@@ -34,6 +34,6 @@ all_end named (suc n) = all_end named n && ends (get_or named n 0)
 -- what is held after a block of a level, which names these two beside it, and whether all blocks so far follow
 pub record Followed (before before' named named' : List ℕ) (so so' : Bool) (block level left right : ℕ) : Type 0 where
   pub block_held : before' ≡ set before level block
-  pub name-held : named' ≡ set named level right
+  pub name_held : named' ≡ set named level right
   pub small : right < 2 ^ 32
   pub follows : so' ≡ (so && joins (get_or before level 0) (get_or named level 0) block left)

@@ -27,10 +27,10 @@ put_le32-requires c = omega (arith, header-five c.args.g.version c.if-version-eq
 pub returns-then-version-eq5 : goal.returns-then-version-eq5
 unfolding stamped
 returns-then-version-eq5 c =
-    let uuid-long : length c.args.g.meta_uuid ≡ 16 = search rules in
+    let uuid_long : length c.args.g.meta_uuid ≡ 16 = search rules in
     let head : let a = c.args in c.stamp_identity.new.b ≡ with_bytes a.b.now magic_at (plain_head a.kind a.g.version a.level a.numrecs a.left.0 a.right.0 ++ identity_head a.g a.block.0) = let a = c.args in
     let plain = plain-length a.kind a.g.version a.level a.numrecs a.left.0 a.right.0 in
-    let identity = identity-length a.g a.block.0 (uuid-long) in
+    let identity = identity-length a.g a.block.0 (uuid_long) in
     let long = header-five a.g.version c.if-version-eq5.true in
     with_bytes-two a.b.now magic_at (plain_head a.kind a.g.version a.level a.numrecs a.left.0 a.right.0) (identity_head a.g a.block.0) _ _ blkno_at
     c.stamp_plain.ensures

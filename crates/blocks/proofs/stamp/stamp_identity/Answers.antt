@@ -18,18 +18,18 @@ address-address-requires c =
 
 pub copy-requires : goal.copy-requires
 copy-requires c =
-    let uuid-long : length c.args.g.meta_uuid ≡ 16 = search rules in
-    omega (arith, uuid-long, c.requires.1)
+    let uuid_long : length c.args.g.meta_uuid ≡ 16 = search rules in
+    omega (arith, uuid_long, c.requires.1)
 
 pub returns : goal.returns
 unfolding be_bytes
 returns c =
-    let uuid-long : length c.args.g.meta_uuid ≡ 16 = search rules in
+    let uuid_long : length c.args.g.meta_uuid ≡ 16 = search rules in
     let a = c.args in
     let b = a.b.now in
     let d = be_bytes 8 c.address-address.result.0 in
     let u = a.g.meta_uuid in
-    let long : length u ≡ 16 = uuid-long in
+    let long : length u ≡ 16 = uuid_long in
     let at : c.address-address.result.0 ≡ address_of a.g (linear_of a.g a.block.0) =
     c.address-address.ensures ∙ ap (address_of a.g) c.linear.ensures in
     let two = with_bytes-two b blkno_at d (be_bytes 8 a.g.last_lsn) _ _ lsn_at c.put_be64.ensures c.put_be64-2.ensures refl (omega arith) in

@@ -10,6 +10,6 @@ returns c =
     (record {
       answer = says group_figures c.group_edited_answer.ensures e.said (c.say.ensures.number, c.say.ensures.figures);
       map_is = e.map_is;
-      counts-are = e.counts-are;
-      free-are = e.free-are;
+      counts_are = e.counts_are;
+      free_are = e.free_are;
     })

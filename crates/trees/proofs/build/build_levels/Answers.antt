@@ -36,6 +36,6 @@ overflow_mul-result c =
 
 pub returns : goal.returns
 returns c =
-    let uuid-long : length c.args.g.meta_uuid ≡ 16 = search rules in
+    let uuid_long : length c.args.g.meta_uuid ≡ 16 = search rules in
     let a = c.args in
-    done-18 a.g a.kind a.list.now a.levels.now a.numbers.now a.out.now a.total c.requires (omega (arith, c.if-total-count.false)) (omega (arith, c.if-out-size.false)) (uuid-long) _ c.write_tree.ensures
+    done-18 a.g a.kind a.list.now a.levels.now a.numbers.now a.out.now a.total c.requires (omega (arith, c.if-total-count.false)) (omega (arith, c.if-out-size.false)) (uuid_long) _ c.write_tree.ensures

@@ -3,12 +3,12 @@ use native.Mathlib.Omega.{arith}
 use borrow.Author.Tests.{not-true, not-false}
 use mathlib.Core.Path.{◌≡◌}
 use mathlib.Core.Bool.{true}
-use Rattle.trees.proofs.TreeKinds.{record-some}
+use Rattle.trees.proofs.TreeKinds.{record_some}
 use Rattle.trees.proofs.BuildLaws.{levels-in, plan-given, has-16, not_16}
 use Rattle.trees.proofs.build.build_planned.Goals as goal
 
 pub nonzero_div-n : goal.nonzero_div-n
-nonzero_div-n c = omega (arith, c.record_len.ensures, record-some c.args.kind)
+nonzero_div-n c = omega (arith, c.record_len.ensures, record_some c.args.kind)
 
 pub returns-then-not-p : goal.returns-then-not-p
 returns-then-not-p c =

@@ -4,7 +4,7 @@ use mathlib.Core.Path.{ap, ◌∙◌}
 use native.Mathlib.Omega.{arith}
 use lib.ListN.{length}
 use Rattle.trees.specs.Plan.{first_of}
-use Rattle.trees.proofs.TreeKinds.{record-some}
+use Rattle.trees.proofs.TreeKinds.{record_some}
 use Rattle.trees.proofs.NodeWriting.{KeyRound, keys-start, keys-done, key-round, planned-by}
 use borrow.Author.Rules.{rules}
 use Rattle.trees.proofs.build.put_all_keys.Goals as goal
@@ -13,7 +13,7 @@ pub record_len-requires : goal.record_len-requires
 record_len-requires c = tt
 
 pub nonzero_div-n : goal.nonzero_div-n
-nonzero_div-n c = omega (arith, c.record_len.ensures, record-some c.args.kind)
+nonzero_div-n c = omega (arith, c.record_len.ensures, record_some c.args.kind)
 
 pub keys_len-long-requires : goal.keys_len-long-requires
 keys_len-long-requires c = tt

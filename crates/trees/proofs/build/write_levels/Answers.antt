@@ -10,14 +10,14 @@ use Rattle.trees.proofs.build.write_levels.Goals as goal
 
 pub bounds-levels-0 : goal.bounds-levels-0
 bounds-levels-0 c =
-    let uuid-long : length c.args.g.meta_uuid ≡ 16 = search rules in
-    let begun-at : Begun c.args.g c.args.kind c.args.list.now c.args.levels.now c.args.numbers.now c.args.out.now c.requires (uuid-long) = begun c.args.g c.args.kind c.args.list.now c.args.levels.now c.args.numbers.now c.args.out.now c.requires (uuid-long) in
+    let uuid_long : length c.args.g.meta_uuid ≡ 16 = search rules in
+    let begun-at : Begun c.args.g c.args.kind c.args.list.now c.args.levels.now c.args.numbers.now c.args.out.now c.requires (uuid_long) = begun c.args.g c.args.kind c.args.list.now c.args.levels.now c.args.numbers.now c.args.out.now c.requires (uuid_long) in
     (begun-at).some_level
 
 pub loop-level-init : goal.loop-level-init
 loop-level-init c =
-    let uuid-long : length c.args.g.meta_uuid ≡ 16 = search rules in
-    let begun-at : Begun c.args.g c.args.kind c.args.list.now c.args.levels.now c.args.numbers.now c.args.out.now c.requires (uuid-long) = begun c.args.g c.args.kind c.args.list.now c.args.levels.now c.args.numbers.now c.args.out.now c.requires (uuid-long) in
+    let uuid_long : length c.args.g.meta_uuid ≡ 16 = search rules in
+    let begun-at : Begun c.args.g c.args.kind c.args.list.now c.args.levels.now c.args.numbers.now c.args.out.now c.requires (uuid_long) = begun c.args.g c.args.kind c.args.list.now c.args.levels.now c.args.numbers.now c.args.out.now c.requires (uuid_long) in
     (begun-at).so
 
 pub overflow_add-level : goal.overflow_add-level
@@ -35,123 +35,123 @@ bounds-levels-level c = omega (arith, c.loop-level-test.true)
 pub overflow_add-end-in-loop-level : goal.overflow_add-end-in-loop-level
 overflow_add-end-in-loop-level c =
     let numbers-small : length c.args.numbers.now < 2 ^ 62 = search rules in
-    let uuid-long : length c.args.g.meta_uuid ≡ 16 = search rules in
+    let uuid_long : length c.args.g.meta_uuid ≡ 16 = search rules in
     let deeper : suc c.loop-level.level < length c.args.levels.now = omega (arith, c.loop-level-test.true) in
     let width : get_or c.args.levels.now (c.loop-level.level + 1) 0 ≡ get_or c.args.levels.now (suc c.loop-level.level) 0 = ap (λ (x : ℕ). get_or c.args.levels.now x 0) (add-one c.loop-level.level) in
-    let round : TreeRound c.args.g c.args.kind c.args.list.now c.args.levels.now c.args.numbers.now c.args.out.now c.requires (uuid-long) c.loop-level.out c.loop-level.level c.loop-level.low c.loop-level.base (get_or c.args.levels.now (c.loop-level.level + 1) 0) c.loop-level.invariant (deeper) (width) = let l = c.loop-level in
-    tree-round c.args.g c.args.kind c.args.list.now c.args.levels.now c.args.numbers.now c.args.out.now c.requires (uuid-long) l.out l.level l.low l.base (get_or c.args.levels.now (l.level + 1) 0) l.invariant (deeper) (width) in
+    let round : TreeRound c.args.g c.args.kind c.args.list.now c.args.levels.now c.args.numbers.now c.args.out.now c.requires (uuid_long) c.loop-level.out c.loop-level.level c.loop-level.low c.loop-level.base (get_or c.args.levels.now (c.loop-level.level + 1) 0) c.loop-level.invariant (deeper) (width) = let l = c.loop-level in
+    tree-round c.args.g c.args.kind c.args.list.now c.args.levels.now c.args.numbers.now c.args.out.now c.requires (uuid_long) l.out l.level l.low l.base (get_or c.args.levels.now (l.level + 1) 0) l.invariant (deeper) (width) in
     omega (arith, (round).blocks-in, numbers-small)
 
 pub overflow_mul-a : goal.overflow_mul-a
 overflow_mul-a c =
     let out-small : length c.args.out.now < 2 ^ 63 = search rules in
-    let uuid-long : length c.args.g.meta_uuid ≡ 16 = search rules in
+    let uuid_long : length c.args.g.meta_uuid ≡ 16 = search rules in
     let deeper : suc c.loop-level.level < length c.args.levels.now = omega (arith, c.loop-level-test.true) in
     let width : get_or c.args.levels.now (c.loop-level.level + 1) 0 ≡ get_or c.args.levels.now (suc c.loop-level.level) 0 = ap (λ (x : ℕ). get_or c.args.levels.now x 0) (add-one c.loop-level.level) in
-    let round : TreeRound c.args.g c.args.kind c.args.list.now c.args.levels.now c.args.numbers.now c.args.out.now c.requires (uuid-long) c.loop-level.out c.loop-level.level c.loop-level.low c.loop-level.base (get_or c.args.levels.now (c.loop-level.level + 1) 0) c.loop-level.invariant (deeper) (width) = let l = c.loop-level in
-    tree-round c.args.g c.args.kind c.args.list.now c.args.levels.now c.args.numbers.now c.args.out.now c.requires (uuid-long) l.out l.level l.low l.base (get_or c.args.levels.now (l.level + 1) 0) l.invariant (deeper) (width) in
+    let round : TreeRound c.args.g c.args.kind c.args.list.now c.args.levels.now c.args.numbers.now c.args.out.now c.requires (uuid_long) c.loop-level.out c.loop-level.level c.loop-level.low c.loop-level.base (get_or c.args.levels.now (c.loop-level.level + 1) 0) c.loop-level.invariant (deeper) (width) = let l = c.loop-level in
+    tree-round c.args.g c.args.kind c.args.list.now c.args.levels.now c.args.numbers.now c.args.out.now c.requires (uuid_long) l.out l.level l.low l.base (get_or c.args.levels.now (l.level + 1) 0) l.invariant (deeper) (width) in
     omega (arith, (round).ahead, (round).room, out-small)
 
 pub overflow_mul-e : goal.overflow_mul-e
 overflow_mul-e c =
     let out-small : length c.args.out.now < 2 ^ 63 = search rules in
-    let uuid-long : length c.args.g.meta_uuid ≡ 16 = search rules in
+    let uuid_long : length c.args.g.meta_uuid ≡ 16 = search rules in
     let deeper : suc c.loop-level.level < length c.args.levels.now = omega (arith, c.loop-level-test.true) in
     let width : get_or c.args.levels.now (c.loop-level.level + 1) 0 ≡ get_or c.args.levels.now (suc c.loop-level.level) 0 = ap (λ (x : ℕ). get_or c.args.levels.now x 0) (add-one c.loop-level.level) in
-    let round : TreeRound c.args.g c.args.kind c.args.list.now c.args.levels.now c.args.numbers.now c.args.out.now c.requires (uuid-long) c.loop-level.out c.loop-level.level c.loop-level.low c.loop-level.base (get_or c.args.levels.now (c.loop-level.level + 1) 0) c.loop-level.invariant (deeper) (width) = let l = c.loop-level in
-    tree-round c.args.g c.args.kind c.args.list.now c.args.levels.now c.args.numbers.now c.args.out.now c.requires (uuid-long) l.out l.level l.low l.base (get_or c.args.levels.now (l.level + 1) 0) l.invariant (deeper) (width) in
+    let round : TreeRound c.args.g c.args.kind c.args.list.now c.args.levels.now c.args.numbers.now c.args.out.now c.requires (uuid_long) c.loop-level.out c.loop-level.level c.loop-level.low c.loop-level.base (get_or c.args.levels.now (c.loop-level.level + 1) 0) c.loop-level.invariant (deeper) (width) = let l = c.loop-level in
+    tree-round c.args.g c.args.kind c.args.list.now c.args.levels.now c.args.numbers.now c.args.out.now c.requires (uuid_long) l.out l.level l.low l.base (get_or c.args.levels.now (l.level + 1) 0) l.invariant (deeper) (width) in
     omega (arith, (round).room, out-small)
 
 pub offset_bounds-numbers-low : goal.offset_bounds-numbers-low
 offset_bounds-numbers-low c =
     let numbers-small : length c.args.numbers.now < 2 ^ 62 = search rules in
-    let uuid-long : length c.args.g.meta_uuid ≡ 16 = search rules in
+    let uuid_long : length c.args.g.meta_uuid ≡ 16 = search rules in
     let deeper : suc c.loop-level.level < length c.args.levels.now = omega (arith, c.loop-level-test.true) in
     let width : get_or c.args.levels.now (c.loop-level.level + 1) 0 ≡ get_or c.args.levels.now (suc c.loop-level.level) 0 = ap (λ (x : ℕ). get_or c.args.levels.now x 0) (add-one c.loop-level.level) in
-    let round : TreeRound c.args.g c.args.kind c.args.list.now c.args.levels.now c.args.numbers.now c.args.out.now c.requires (uuid-long) c.loop-level.out c.loop-level.level c.loop-level.low c.loop-level.base (get_or c.args.levels.now (c.loop-level.level + 1) 0) c.loop-level.invariant (deeper) (width) = let l = c.loop-level in
-    tree-round c.args.g c.args.kind c.args.list.now c.args.levels.now c.args.numbers.now c.args.out.now c.requires (uuid-long) l.out l.level l.low l.base (get_or c.args.levels.now (l.level + 1) 0) l.invariant (deeper) (width) in
+    let round : TreeRound c.args.g c.args.kind c.args.list.now c.args.levels.now c.args.numbers.now c.args.out.now c.requires (uuid_long) c.loop-level.out c.loop-level.level c.loop-level.low c.loop-level.base (get_or c.args.levels.now (c.loop-level.level + 1) 0) c.loop-level.invariant (deeper) (width) = let l = c.loop-level in
+    tree-round c.args.g c.args.kind c.args.list.now c.args.levels.now c.args.numbers.now c.args.out.now c.requires (uuid_long) l.out l.level l.low l.base (get_or c.args.levels.now (l.level + 1) 0) l.invariant (deeper) (width) in
     omega (arith, (round).low-in, (round).below_in, numbers-small)
 
 pub slice_bounds-write_nodes-count : goal.slice_bounds-write_nodes-count
 slice_bounds-write_nodes-count c =
-    let uuid-long : length c.args.g.meta_uuid ≡ 16 = search rules in
+    let uuid_long : length c.args.g.meta_uuid ≡ 16 = search rules in
     let deeper : suc c.loop-level.level < length c.args.levels.now = omega (arith, c.loop-level-test.true) in
     let width : get_or c.args.levels.now (c.loop-level.level + 1) 0 ≡ get_or c.args.levels.now (suc c.loop-level.level) 0 = ap (λ (x : ℕ). get_or c.args.levels.now x 0) (add-one c.loop-level.level) in
-    let round : TreeRound c.args.g c.args.kind c.args.list.now c.args.levels.now c.args.numbers.now c.args.out.now c.requires (uuid-long) c.loop-level.out c.loop-level.level c.loop-level.low c.loop-level.base (get_or c.args.levels.now (c.loop-level.level + 1) 0) c.loop-level.invariant (deeper) (width) = let l = c.loop-level in
-    tree-round c.args.g c.args.kind c.args.list.now c.args.levels.now c.args.numbers.now c.args.out.now c.requires (uuid-long) l.out l.level l.low l.base (get_or c.args.levels.now (l.level + 1) 0) l.invariant (deeper) (width) in
+    let round : TreeRound c.args.g c.args.kind c.args.list.now c.args.levels.now c.args.numbers.now c.args.out.now c.requires (uuid_long) c.loop-level.out c.loop-level.level c.loop-level.low c.loop-level.base (get_or c.args.levels.now (c.loop-level.level + 1) 0) c.loop-level.invariant (deeper) (width) = let l = c.loop-level in
+    tree-round c.args.g c.args.kind c.args.list.now c.args.levels.now c.args.numbers.now c.args.out.now c.requires (uuid_long) l.out l.level l.low l.base (get_or c.args.levels.now (l.level + 1) 0) l.invariant (deeper) (width) in
     omega (arith, (round).low-in)
 
 pub slice_bounds-write_nodes-start : goal.slice_bounds-write_nodes-start
 slice_bounds-write_nodes-start c =
-    let uuid-long : length c.args.g.meta_uuid ≡ 16 = search rules in
+    let uuid_long : length c.args.g.meta_uuid ≡ 16 = search rules in
     let deeper : suc c.loop-level.level < length c.args.levels.now = omega (arith, c.loop-level-test.true) in
     let width : get_or c.args.levels.now (c.loop-level.level + 1) 0 ≡ get_or c.args.levels.now (suc c.loop-level.level) 0 = ap (λ (x : ℕ). get_or c.args.levels.now x 0) (add-one c.loop-level.level) in
-    let round : TreeRound c.args.g c.args.kind c.args.list.now c.args.levels.now c.args.numbers.now c.args.out.now c.requires (uuid-long) c.loop-level.out c.loop-level.level c.loop-level.low c.loop-level.base (get_or c.args.levels.now (c.loop-level.level + 1) 0) c.loop-level.invariant (deeper) (width) = let l = c.loop-level in
-    tree-round c.args.g c.args.kind c.args.list.now c.args.levels.now c.args.numbers.now c.args.out.now c.requires (uuid-long) l.out l.level l.low l.base (get_or c.args.levels.now (l.level + 1) 0) l.invariant (deeper) (width) in
+    let round : TreeRound c.args.g c.args.kind c.args.list.now c.args.levels.now c.args.numbers.now c.args.out.now c.requires (uuid_long) c.loop-level.out c.loop-level.level c.loop-level.low c.loop-level.base (get_or c.args.levels.now (c.loop-level.level + 1) 0) c.loop-level.invariant (deeper) (width) = let l = c.loop-level in
+    tree-round c.args.g c.args.kind c.args.list.now c.args.levels.now c.args.numbers.now c.args.out.now c.requires (uuid_long) l.out l.level l.low l.base (get_or c.args.levels.now (l.level + 1) 0) l.invariant (deeper) (width) in
     omega (arith, (round).low-in)
 
 pub slice_bounds-write_nodes-end : goal.slice_bounds-write_nodes-end
 slice_bounds-write_nodes-end c =
-    let uuid-long : length c.args.g.meta_uuid ≡ 16 = search rules in
+    let uuid_long : length c.args.g.meta_uuid ≡ 16 = search rules in
     let deeper : suc c.loop-level.level < length c.args.levels.now = omega (arith, c.loop-level-test.true) in
     let width : get_or c.args.levels.now (c.loop-level.level + 1) 0 ≡ get_or c.args.levels.now (suc c.loop-level.level) 0 = ap (λ (x : ℕ). get_or c.args.levels.now x 0) (add-one c.loop-level.level) in
-    let round : TreeRound c.args.g c.args.kind c.args.list.now c.args.levels.now c.args.numbers.now c.args.out.now c.requires (uuid-long) c.loop-level.out c.loop-level.level c.loop-level.low c.loop-level.base (get_or c.args.levels.now (c.loop-level.level + 1) 0) c.loop-level.invariant (deeper) (width) = let l = c.loop-level in
-    tree-round c.args.g c.args.kind c.args.list.now c.args.levels.now c.args.numbers.now c.args.out.now c.requires (uuid-long) l.out l.level l.low l.base (get_or c.args.levels.now (l.level + 1) 0) l.invariant (deeper) (width) in
+    let round : TreeRound c.args.g c.args.kind c.args.list.now c.args.levels.now c.args.numbers.now c.args.out.now c.requires (uuid_long) c.loop-level.out c.loop-level.level c.loop-level.low c.loop-level.base (get_or c.args.levels.now (c.loop-level.level + 1) 0) c.loop-level.invariant (deeper) (width) = let l = c.loop-level in
+    tree-round c.args.g c.args.kind c.args.list.now c.args.levels.now c.args.numbers.now c.args.out.now c.requires (uuid_long) l.out l.level l.low l.base (get_or c.args.levels.now (l.level + 1) 0) l.invariant (deeper) (width) in
     omega (arith, (round).below_in)
 
 pub offset_bounds-numbers-base : goal.offset_bounds-numbers-base
 offset_bounds-numbers-base c =
     let numbers-small : length c.args.numbers.now < 2 ^ 62 = search rules in
-    let uuid-long : length c.args.g.meta_uuid ≡ 16 = search rules in
+    let uuid_long : length c.args.g.meta_uuid ≡ 16 = search rules in
     let deeper : suc c.loop-level.level < length c.args.levels.now = omega (arith, c.loop-level-test.true) in
     let width : get_or c.args.levels.now (c.loop-level.level + 1) 0 ≡ get_or c.args.levels.now (suc c.loop-level.level) 0 = ap (λ (x : ℕ). get_or c.args.levels.now x 0) (add-one c.loop-level.level) in
-    let round : TreeRound c.args.g c.args.kind c.args.list.now c.args.levels.now c.args.numbers.now c.args.out.now c.requires (uuid-long) c.loop-level.out c.loop-level.level c.loop-level.low c.loop-level.base (get_or c.args.levels.now (c.loop-level.level + 1) 0) c.loop-level.invariant (deeper) (width) = let l = c.loop-level in
-    tree-round c.args.g c.args.kind c.args.list.now c.args.levels.now c.args.numbers.now c.args.out.now c.requires (uuid-long) l.out l.level l.low l.base (get_or c.args.levels.now (l.level + 1) 0) l.invariant (deeper) (width) in
+    let round : TreeRound c.args.g c.args.kind c.args.list.now c.args.levels.now c.args.numbers.now c.args.out.now c.requires (uuid_long) c.loop-level.out c.loop-level.level c.loop-level.low c.loop-level.base (get_or c.args.levels.now (c.loop-level.level + 1) 0) c.loop-level.invariant (deeper) (width) = let l = c.loop-level in
+    tree-round c.args.g c.args.kind c.args.list.now c.args.levels.now c.args.numbers.now c.args.out.now c.requires (uuid_long) l.out l.level l.low l.base (get_or c.args.levels.now (l.level + 1) 0) l.invariant (deeper) (width) in
     omega (arith, (round).below_in, numbers-small)
 
 pub slice_bounds-write_nodes-end-in-loop-level : goal.slice_bounds-write_nodes-end-in-loop-level
 slice_bounds-write_nodes-end-in-loop-level c =
-    let uuid-long : length c.args.g.meta_uuid ≡ 16 = search rules in
+    let uuid_long : length c.args.g.meta_uuid ≡ 16 = search rules in
     let deeper : suc c.loop-level.level < length c.args.levels.now = omega (arith, c.loop-level-test.true) in
     let width : get_or c.args.levels.now (c.loop-level.level + 1) 0 ≡ get_or c.args.levels.now (suc c.loop-level.level) 0 = ap (λ (x : ℕ). get_or c.args.levels.now x 0) (add-one c.loop-level.level) in
-    let round : TreeRound c.args.g c.args.kind c.args.list.now c.args.levels.now c.args.numbers.now c.args.out.now c.requires (uuid-long) c.loop-level.out c.loop-level.level c.loop-level.low c.loop-level.base (get_or c.args.levels.now (c.loop-level.level + 1) 0) c.loop-level.invariant (deeper) (width) = let l = c.loop-level in
-    tree-round c.args.g c.args.kind c.args.list.now c.args.levels.now c.args.numbers.now c.args.out.now c.requires (uuid-long) l.out l.level l.low l.base (get_or c.args.levels.now (l.level + 1) 0) l.invariant (deeper) (width) in
+    let round : TreeRound c.args.g c.args.kind c.args.list.now c.args.levels.now c.args.numbers.now c.args.out.now c.requires (uuid_long) c.loop-level.out c.loop-level.level c.loop-level.low c.loop-level.base (get_or c.args.levels.now (c.loop-level.level + 1) 0) c.loop-level.invariant (deeper) (width) = let l = c.loop-level in
+    tree-round c.args.g c.args.kind c.args.list.now c.args.levels.now c.args.numbers.now c.args.out.now c.requires (uuid_long) l.out l.level l.low l.base (get_or c.args.levels.now (l.level + 1) 0) l.invariant (deeper) (width) in
     omega (arith, (round).blocks-in)
 
 pub slice_bounds-write_nodes-count-in-loop-level-2 : goal.slice_bounds-write_nodes-count-in-loop-level-2
 slice_bounds-write_nodes-count-in-loop-level-2 c =
-    let uuid-long : length c.args.g.meta_uuid ≡ 16 = search rules in
+    let uuid_long : length c.args.g.meta_uuid ≡ 16 = search rules in
     let deeper : suc c.loop-level.level < length c.args.levels.now = omega (arith, c.loop-level-test.true) in
     let width : get_or c.args.levels.now (c.loop-level.level + 1) 0 ≡ get_or c.args.levels.now (suc c.loop-level.level) 0 = ap (λ (x : ℕ). get_or c.args.levels.now x 0) (add-one c.loop-level.level) in
-    let round : TreeRound c.args.g c.args.kind c.args.list.now c.args.levels.now c.args.numbers.now c.args.out.now c.requires (uuid-long) c.loop-level.out c.loop-level.level c.loop-level.low c.loop-level.base (get_or c.args.levels.now (c.loop-level.level + 1) 0) c.loop-level.invariant (deeper) (width) = let l = c.loop-level in
-    tree-round c.args.g c.args.kind c.args.list.now c.args.levels.now c.args.numbers.now c.args.out.now c.requires (uuid-long) l.out l.level l.low l.base (get_or c.args.levels.now (l.level + 1) 0) l.invariant (deeper) (width) in
+    let round : TreeRound c.args.g c.args.kind c.args.list.now c.args.levels.now c.args.numbers.now c.args.out.now c.requires (uuid_long) c.loop-level.out c.loop-level.level c.loop-level.low c.loop-level.base (get_or c.args.levels.now (c.loop-level.level + 1) 0) c.loop-level.invariant (deeper) (width) = let l = c.loop-level in
+    tree-round c.args.g c.args.kind c.args.list.now c.args.levels.now c.args.numbers.now c.args.out.now c.requires (uuid_long) l.out l.level l.low l.base (get_or c.args.levels.now (l.level + 1) 0) l.invariant (deeper) (width) in
     omega (arith, (round).ahead)
 
 pub slice_bounds-write_nodes-start-in-loop-level-2 : goal.slice_bounds-write_nodes-start-in-loop-level-2
 slice_bounds-write_nodes-start-in-loop-level-2 c =
-    let uuid-long : length c.args.g.meta_uuid ≡ 16 = search rules in
+    let uuid_long : length c.args.g.meta_uuid ≡ 16 = search rules in
     let deeper : suc c.loop-level.level < length c.args.levels.now = omega (arith, c.loop-level-test.true) in
     let width : get_or c.args.levels.now (c.loop-level.level + 1) 0 ≡ get_or c.args.levels.now (suc c.loop-level.level) 0 = ap (λ (x : ℕ). get_or c.args.levels.now x 0) (add-one c.loop-level.level) in
-    let round : TreeRound c.args.g c.args.kind c.args.list.now c.args.levels.now c.args.numbers.now c.args.out.now c.requires (uuid-long) c.loop-level.out c.loop-level.level c.loop-level.low c.loop-level.base (get_or c.args.levels.now (c.loop-level.level + 1) 0) c.loop-level.invariant (deeper) (width) = let l = c.loop-level in
-    tree-round c.args.g c.args.kind c.args.list.now c.args.levels.now c.args.numbers.now c.args.out.now c.requires (uuid-long) l.out l.level l.low l.base (get_or c.args.levels.now (l.level + 1) 0) l.invariant (deeper) (width) in
+    let round : TreeRound c.args.g c.args.kind c.args.list.now c.args.levels.now c.args.numbers.now c.args.out.now c.requires (uuid_long) c.loop-level.out c.loop-level.level c.loop-level.low c.loop-level.base (get_or c.args.levels.now (c.loop-level.level + 1) 0) c.loop-level.invariant (deeper) (width) = let l = c.loop-level in
+    tree-round c.args.g c.args.kind c.args.list.now c.args.levels.now c.args.numbers.now c.args.out.now c.requires (uuid_long) l.out l.level l.low l.base (get_or c.args.levels.now (l.level + 1) 0) l.invariant (deeper) (width) in
     omega (arith, (round).ahead)
 
 pub slice_bounds-write_nodes-end-in-loop-level-2 : goal.slice_bounds-write_nodes-end-in-loop-level-2
 slice_bounds-write_nodes-end-in-loop-level-2 c =
-    let uuid-long : length c.args.g.meta_uuid ≡ 16 = search rules in
+    let uuid_long : length c.args.g.meta_uuid ≡ 16 = search rules in
     let deeper : suc c.loop-level.level < length c.args.levels.now = omega (arith, c.loop-level-test.true) in
     let width : get_or c.args.levels.now (c.loop-level.level + 1) 0 ≡ get_or c.args.levels.now (suc c.loop-level.level) 0 = ap (λ (x : ℕ). get_or c.args.levels.now x 0) (add-one c.loop-level.level) in
-    let round : TreeRound c.args.g c.args.kind c.args.list.now c.args.levels.now c.args.numbers.now c.args.out.now c.requires (uuid-long) c.loop-level.out c.loop-level.level c.loop-level.low c.loop-level.base (get_or c.args.levels.now (c.loop-level.level + 1) 0) c.loop-level.invariant (deeper) (width) = let l = c.loop-level in
-    tree-round c.args.g c.args.kind c.args.list.now c.args.levels.now c.args.numbers.now c.args.out.now c.requires (uuid-long) l.out l.level l.low l.base (get_or c.args.levels.now (l.level + 1) 0) l.invariant (deeper) (width) in
+    let round : TreeRound c.args.g c.args.kind c.args.list.now c.args.levels.now c.args.numbers.now c.args.out.now c.requires (uuid_long) c.loop-level.out c.loop-level.level c.loop-level.low c.loop-level.base (get_or c.args.levels.now (c.loop-level.level + 1) 0) c.loop-level.invariant (deeper) (width) = let l = c.loop-level in
+    tree-round c.args.g c.args.kind c.args.list.now c.args.levels.now c.args.numbers.now c.args.out.now c.requires (uuid_long) l.out l.level l.low l.base (get_or c.args.levels.now (l.level + 1) 0) l.invariant (deeper) (width) in
     omega (arith, (round).room, c.loop-level.invariant.written.long)
 
 pub write_nodes-requires : goal.write_nodes-requires
 write_nodes-requires c =
-    let uuid-long : length c.args.g.meta_uuid ≡ 16 = search rules in
+    let uuid_long : length c.args.g.meta_uuid ≡ 16 = search rules in
     let deeper : suc c.loop-level.level < length c.args.levels.now = omega (arith, c.loop-level-test.true) in
     let width : get_or c.args.levels.now (c.loop-level.level + 1) 0 ≡ get_or c.args.levels.now (suc c.loop-level.level) 0 = ap (λ (x : ℕ). get_or c.args.levels.now x 0) (add-one c.loop-level.level) in
-    let round : TreeRound c.args.g c.args.kind c.args.list.now c.args.levels.now c.args.numbers.now c.args.out.now c.requires (uuid-long) c.loop-level.out c.loop-level.level c.loop-level.low c.loop-level.base (get_or c.args.levels.now (c.loop-level.level + 1) 0) c.loop-level.invariant (deeper) (width) = let l = c.loop-level in
-    tree-round c.args.g c.args.kind c.args.list.now c.args.levels.now c.args.numbers.now c.args.out.now c.requires (uuid-long) l.out l.level l.low l.base (get_or c.args.levels.now (l.level + 1) 0) l.invariant (deeper) (width) in
+    let round : TreeRound c.args.g c.args.kind c.args.list.now c.args.levels.now c.args.numbers.now c.args.out.now c.requires (uuid_long) c.loop-level.out c.loop-level.level c.loop-level.low c.loop-level.base (get_or c.args.levels.now (c.loop-level.level + 1) 0) c.loop-level.invariant (deeper) (width) = let l = c.loop-level in
+    tree-round c.args.g c.args.kind c.args.list.now c.args.levels.now c.args.numbers.now c.args.out.now c.requires (uuid_long) l.out l.level l.low l.base (get_or c.args.levels.now (l.level + 1) 0) l.invariant (deeper) (width) in
     (round).nodes-for _ (simp (length-take, length-drop) (omega (arith, (round).ahead, (round).room, c.loop-level.invariant.written.long)))
 
 pub overflow_add-level-in-loop-level : goal.overflow_add-level-in-loop-level
@@ -162,11 +162,11 @@ loop-level-smaller c = omega (arith, c.loop-level.invariant.inside)
 
 pub loop-level-preserved : goal.loop-level-preserved
 loop-level-preserved c =
-    let uuid-long : length c.args.g.meta_uuid ≡ 16 = search rules in
+    let uuid_long : length c.args.g.meta_uuid ≡ 16 = search rules in
     let deeper : suc c.loop-level.level < length c.args.levels.now = omega (arith, c.loop-level-test.true) in
     let width : get_or c.args.levels.now (c.loop-level.level + 1) 0 ≡ get_or c.args.levels.now (suc c.loop-level.level) 0 = ap (λ (x : ℕ). get_or c.args.levels.now x 0) (add-one c.loop-level.level) in
-    let round : TreeRound c.args.g c.args.kind c.args.list.now c.args.levels.now c.args.numbers.now c.args.out.now c.requires (uuid-long) c.loop-level.out c.loop-level.level c.loop-level.low c.loop-level.base (get_or c.args.levels.now (c.loop-level.level + 1) 0) c.loop-level.invariant (deeper) (width) = let l = c.loop-level in
-    tree-round c.args.g c.args.kind c.args.list.now c.args.levels.now c.args.numbers.now c.args.out.now c.requires (uuid-long) l.out l.level l.low l.base (get_or c.args.levels.now (l.level + 1) 0) l.invariant (deeper) (width) in
+    let round : TreeRound c.args.g c.args.kind c.args.list.now c.args.levels.now c.args.numbers.now c.args.out.now c.requires (uuid_long) c.loop-level.out c.loop-level.level c.loop-level.low c.loop-level.base (get_or c.args.levels.now (c.loop-level.level + 1) 0) c.loop-level.invariant (deeper) (width) = let l = c.loop-level in
+    tree-round c.args.g c.args.kind c.args.list.now c.args.levels.now c.args.numbers.now c.args.out.now c.requires (uuid_long) l.out l.level l.low l.base (get_or c.args.levels.now (l.level + 1) 0) l.invariant (deeper) (width) in
     let l = c.loop-level in
     let r = round in
     let size = c.args.g.blocksize in
@@ -178,8 +178,8 @@ shape_of-out c = c.loop-level.invariant.written.long
 
 pub returns : goal.returns
 returns c =
-    let uuid-long : length c.args.g.meta_uuid ≡ 16 = search rules in
-    let begun-at : Begun c.args.g c.args.kind c.args.list.now c.args.levels.now c.args.numbers.now c.args.out.now c.requires (uuid-long) = begun c.args.g c.args.kind c.args.list.now c.args.levels.now c.args.numbers.now c.args.out.now c.requires (uuid-long) in
+    let uuid_long : length c.args.g.meta_uuid ≡ 16 = search rules in
+    let begun-at : Begun c.args.g c.args.kind c.args.list.now c.args.levels.now c.args.numbers.now c.args.out.now c.requires (uuid_long) = begun c.args.g c.args.kind c.args.list.now c.args.levels.now c.args.numbers.now c.args.out.now c.requires (uuid_long) in
     let a = c.args in
     let l = c.loop-level in
     tree-done a.g a.kind a.list.now a.levels.now a.numbers.now a.out.now l.out l.level l.low l.base (begun-at).room l.invariant (omega (arith, c.loop-level-test.false))

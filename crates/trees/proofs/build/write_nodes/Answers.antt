@@ -18,11 +18,11 @@ share-count-requires c = c.requires.some
 pub overflow_add-to : goal.overflow_add-to
 overflow_add-to c =
     let below-small : length c.args.below.now < 2 ^ 62 = search rules in
-    let uuid-long : length c.args.g.meta_uuid ≡ 16 = search rules in
+    let uuid_long : length c.args.g.meta_uuid ≡ 16 = search rules in
     let round : NodeRound c.args.g c.args.kind c.args.list.now c.args.levels.now c.args.level c.args.below.now c.args.blocks.now c.args.out.now c.loop-i.out c.loop-i.i c.loop-i.child c.loop-i.left c.share-count.result = let a = c.args in
     let l = c.loop-i in
     node-round a.g a.kind a.list.now a.levels.now a.level a.below.now a.blocks.now a.out.now l.out l.i l.child l.left c.share-count.result
-    c.requires (uuid-long) l.invariant c.loop-i-test.true c.share-count.ensures in
+    c.requires (uuid_long) l.invariant c.loop-i-test.true c.share-count.ensures in
     omega (arith, (round).inside, below-small)
 
 pub bounds-blocks-i : goal.bounds-blocks-i
@@ -34,48 +34,48 @@ after-right-requires c = c.loop-i-test.true
 pub overflow_mul-a : goal.overflow_mul-a
 overflow_mul-a c =
     let out-small : length c.args.out.now < 2 ^ 63 = search rules in
-    let uuid-long : length c.args.g.meta_uuid ≡ 16 = search rules in
+    let uuid_long : length c.args.g.meta_uuid ≡ 16 = search rules in
     let round : NodeRound c.args.g c.args.kind c.args.list.now c.args.levels.now c.args.level c.args.below.now c.args.blocks.now c.args.out.now c.loop-i.out c.loop-i.i c.loop-i.child c.loop-i.left c.share-count.result = let a = c.args in
     let l = c.loop-i in
     node-round a.g a.kind a.list.now a.levels.now a.level a.below.now a.blocks.now a.out.now l.out l.i l.child l.left c.share-count.result
-    c.requires (uuid-long) l.invariant c.loop-i-test.true c.share-count.ensures in
+    c.requires (uuid_long) l.invariant c.loop-i-test.true c.share-count.ensures in
     omega (arith, (round).ends, out-small)
 
 pub overflow_add-e : goal.overflow_add-e
 overflow_add-e c =
     let out-small : length c.args.out.now < 2 ^ 63 = search rules in
-    let uuid-long : length c.args.g.meta_uuid ≡ 16 = search rules in
+    let uuid_long : length c.args.g.meta_uuid ≡ 16 = search rules in
     let round : NodeRound c.args.g c.args.kind c.args.list.now c.args.levels.now c.args.level c.args.below.now c.args.blocks.now c.args.out.now c.loop-i.out c.loop-i.i c.loop-i.child c.loop-i.left c.share-count.result = let a = c.args in
     let l = c.loop-i in
     node-round a.g a.kind a.list.now a.levels.now a.level a.below.now a.blocks.now a.out.now l.out l.i l.child l.left c.share-count.result
-    c.requires (uuid-long) l.invariant c.loop-i-test.true c.share-count.ensures in
+    c.requires (uuid_long) l.invariant c.loop-i-test.true c.share-count.ensures in
     omega (arith, (round).ends, out-small)
 
 pub slice_bounds-write_node-end : goal.slice_bounds-write_node-end
 slice_bounds-write_node-end c =
-    let uuid-long : length c.args.g.meta_uuid ≡ 16 = search rules in
+    let uuid_long : length c.args.g.meta_uuid ≡ 16 = search rules in
     let round : NodeRound c.args.g c.args.kind c.args.list.now c.args.levels.now c.args.level c.args.below.now c.args.blocks.now c.args.out.now c.loop-i.out c.loop-i.i c.loop-i.child c.loop-i.left c.share-count.result = let a = c.args in
     let l = c.loop-i in
     node-round a.g a.kind a.list.now a.levels.now a.level a.below.now a.blocks.now a.out.now l.out l.i l.child l.left c.share-count.result
-    c.requires (uuid-long) l.invariant c.loop-i-test.true c.share-count.ensures in
+    c.requires (uuid_long) l.invariant c.loop-i-test.true c.share-count.ensures in
     omega (arith, (round).inside)
 
 pub slice_bounds-write_node-end-in-loop-i : goal.slice_bounds-write_node-end-in-loop-i
 slice_bounds-write_node-end-in-loop-i c =
-    let uuid-long : length c.args.g.meta_uuid ≡ 16 = search rules in
+    let uuid_long : length c.args.g.meta_uuid ≡ 16 = search rules in
     let round : NodeRound c.args.g c.args.kind c.args.list.now c.args.levels.now c.args.level c.args.below.now c.args.blocks.now c.args.out.now c.loop-i.out c.loop-i.i c.loop-i.child c.loop-i.left c.share-count.result = let a = c.args in
     let l = c.loop-i in
     node-round a.g a.kind a.list.now a.levels.now a.level a.below.now a.blocks.now a.out.now l.out l.i l.child l.left c.share-count.result
-    c.requires (uuid-long) l.invariant c.loop-i-test.true c.share-count.ensures in
+    c.requires (uuid_long) l.invariant c.loop-i-test.true c.share-count.ensures in
     omega (arith, (round).ends, c.loop-i.invariant.written.long)
 
 pub write_node-requires : goal.write_node-requires
 write_node-requires c =
-    let uuid-long : length c.args.g.meta_uuid ≡ 16 = search rules in
+    let uuid_long : length c.args.g.meta_uuid ≡ 16 = search rules in
     let round : NodeRound c.args.g c.args.kind c.args.list.now c.args.levels.now c.args.level c.args.below.now c.args.blocks.now c.args.out.now c.loop-i.out c.loop-i.i c.loop-i.child c.loop-i.left c.share-count.result = let a = c.args in
     let l = c.loop-i in
     node-round a.g a.kind a.list.now a.levels.now a.level a.below.now a.blocks.now a.out.now l.out l.i l.child l.left c.share-count.result
-    c.requires (uuid-long) l.invariant c.loop-i-test.true c.share-count.ensures in
+    c.requires (uuid_long) l.invariant c.loop-i-test.true c.share-count.ensures in
     (round).node-for _ (simp (length-take, length-drop) (omega (arith, (round).ends, c.loop-i.invariant.written.long)))
 
 pub overflow_add-i : goal.overflow_add-i
@@ -85,11 +85,11 @@ overflow_add-i c =
 
 pub loop-i-preserved : goal.loop-i-preserved
 loop-i-preserved c =
-    let uuid-long : length c.args.g.meta_uuid ≡ 16 = search rules in
+    let uuid_long : length c.args.g.meta_uuid ≡ 16 = search rules in
     let round : NodeRound c.args.g c.args.kind c.args.list.now c.args.levels.now c.args.level c.args.below.now c.args.blocks.now c.args.out.now c.loop-i.out c.loop-i.i c.loop-i.child c.loop-i.left c.share-count.result = let a = c.args in
     let l = c.loop-i in
     node-round a.g a.kind a.list.now a.levels.now a.level a.below.now a.blocks.now a.out.now l.out l.i l.child l.left c.share-count.result
-    c.requires (uuid-long) l.invariant c.loop-i-test.true c.share-count.ensures in
+    c.requires (uuid_long) l.invariant c.loop-i-test.true c.share-count.ensures in
     (round).next _ _ c.after-right.ensures c.write_node.ensures
 
 pub shape_of-out : goal.shape_of-out

@@ -9,7 +9,7 @@ returns c =
     let a = c.args in
     record {
       block_held = refl;
-      name-held = refl;
+      name_held = refl;
       small = c.struct_known-1.given.1.0.fits;
       follows =
           elim c.if-not-follows.branch [ then-not-follows w ↦ w.so-is ∙ sym (ap (λ (x : Bool). a.linked && x) (sym c.follows.ensures ∙ w.if-not-follows.true) ∙ and-false a.linked) | else-not-follows w ↦ w.so-is ∙ sym (ap (λ (x : Bool). a.linked && x) (sym c.follows.ensures ∙ w.if-not-follows.false) ∙ and-true a.linked) ];
