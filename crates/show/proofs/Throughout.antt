@@ -8,7 +8,7 @@ use native.Mathlib.Numerals.{add-one}
 use native.Mathlib.Omega.{arith}
 use lib.ListN.{length, take, drop, get_or, length-drop, drop_of_length-le}
 use lib.Seq.{drop-cons, take_all}
-use borrow.Author.Tests.{eq-eqb, ne_eqb, le-leb}
+use borrow.Author.Tests.{eq-eqb, ne_eqb, le-leb, lt-leb}
 use Rattle.show.specs.Places.{throughout, tail_throughout}
 
 -- the elements before place i are v, so those from there on decide
@@ -30,6 +30,9 @@ module _ {b : List ℕ} {v i : ℕ} (r : Read b v i) where
   end h = sym (r.rest ∙ rw (drop_of_length-le b {i = i} h))
 
 -- ---- from a place on
+
+pub tail-short : (l : List ℕ) (from v : ℕ) → length l < from → false ≡ tail_throughout l from v
+tail-short l from v h = rw (lt-leb from (length l) h)
 
 pub tail-there : (l : List ℕ) (from v : ℕ) → from ≤ length l → throughout (take (length l - from) (drop from l)) v ≡ tail_throughout l from v
 tail-there l from v h =
