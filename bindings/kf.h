@@ -1,6 +1,6 @@
 /* The C interface of the group trees. Link target/staticlib/libtree_calls.a and target/staticlib/liblist_calls.a, made by
- * `tools/staticlib`. Both need one function of the C library, memset. bindings/examples/let_go.c is an
- * example.
+ * `tools/staticlib`. Both need one function of the C library, memset. bindings/examples/let_go.c and
+ * sheet.c are examples.
  *
  * A slice passes as a pointer and the number of its elements. Every call but the two of CRC32C answers KF_DONE where it was done, else the
  * number of the first question that failed, and writes the four figures of `said` whole where it has them. docs/QUESTIONS.md says each

@@ -1,6 +1,5 @@
-/* An extent is taken, taken once more by another owner, and let go by both, with the cause of a block that stays held; these changes are written on
- * a sheet and read back; then the reverse map is built as a tree, read back and looked up in. The calls are the proved library's; what is lent to
- * them, and what is made of their answers, is this program's.
+/* An extent is taken, taken once more by another owner, and let go by both, with the cause of a block that stays held; then the reverse map is
+ * built as a tree, read back and looked up in. The calls are the proved library's; what is lent to them, and what is made of their answers, is this program's.
  * Compile it in the repository's folder, as C99 or later, or as C++11 or later:
  *
  *   cc -std=c99 -Wall -Wextra -pedantic -I bindings bindings/examples/let_go.c \
@@ -189,40 +188,6 @@ static void explain(const struct list *map, const struct list *counts, uint32_t 
            (unsigned long)be32(record + 4), (unsigned long)be32(record));
 }
 
-/* The four changes that main makes, written on a sheet, which is one block, and read back. */
-static void send_and_receive(void)
-{
-    static const uint32_t kinds[4] = {KF_CHANGE_FIRST_TAKE, KF_CHANGE_TAKE_HELD, KF_CHANGE_LET_GO, KF_CHANGE_LET_GO};
-    static const uint64_t owners[4] = {131, 132, 131, 132};
-    uint64_t said[KF_FIGURES];
-    struct list changes = lend(4 * KF_CHANGE_BYTES), sheet = lend(KF_SHEET_BLOCK_BYTES), again;
-    size_t i;
-
-    for (i = 0; i < 4; i++) {
-        uint8_t *change = changes.bytes + i * KF_CHANGE_BYTES;
-        put_be32(change, kinds[i]);
-        put_be32(change + 4, 0);
-        put_rmap(change + 8, 40, 10, owners[i], 0);
-    }
-    expect("write_sheet", kf_write_sheet(changes.bytes, changes.len, sheet.bytes, sheet.len, said), KF_DONE);
-    must(said[0] == KF_SHEET_BLOCK_BYTES, "the sheet is one block");
-
-    again = lend(sheet.len / KF_SHEET_BLOCK_BYTES * KF_SHEET_BLOCK_CHANGES * KF_CHANGE_BYTES);
-    expect("read_sheet", kf_read_sheet(sheet.bytes, sheet.len, again.bytes, again.len, said), KF_DONE);
-    must(said[0] == changes.len && memcmp(again.bytes, changes.bytes, changes.len) == 0, "the changes are the same");
-    printf("  changes: %lu\n", (unsigned long)(said[0] / KF_CHANGE_BYTES));
-
-    /* A sheet with a damaged byte is refused, and so is a list with no change. */
-    sheet.bytes[100] ^= 1;
-    expect("read_sheet of a damaged one", kf_read_sheet(sheet.bytes, sheet.len, again.bytes, again.len, said), KF_Q_SHEET_CRC);
-    must(said[0] == 0 && memcmp(again.bytes, changes.bytes, changes.len) == 0, "a refusal writes no change");
-    expect("write_sheet of no change", kf_write_sheet(changes.bytes, 0, sheet.bytes, sheet.len, said), KF_Q_SHEET_RULE);
-
-    free(changes.bytes);
-    free(sheet.bytes);
-    free(again.bytes);
-}
-
 /* The reverse map as a tree of one block, number 5 of the group, checked, read back and looked up in. */
 static void store_and_read(const struct list *map)
 {
@@ -322,7 +287,6 @@ int main(void)
     must(let_go(&map, &counts, 40, 10, 132) == 1, "one extent is free again");
     print_lists(&map, &counts);
 
-    send_and_receive();
     store_and_read(&map);
 
     free(map.bytes);

@@ -1,4 +1,4 @@
-//! The C example, compiled as C and as C++ with all warnings as errors, linked
+//! The C examples, compiled as C and as C++ with all warnings as errors, linked
 //! with the two archives, and run. A C and a C++ compiler (`cc`, `c++`) are
 //! needed: without them the tests fail.
 
@@ -25,11 +25,6 @@ explain: 31
 let_go: 0
   free: 10 blocks from 40
   records: 1, shared counts: 0
-write_sheet: 0
-read_sheet: 0
-  changes: 4
-read_sheet of a damaged one: 32
-write_sheet of no change: 33
 plan: 0
 build: 0
 check_block: 0
@@ -43,6 +38,14 @@ lookup: 0
   records over block 3: 1
   records over block 4: 0
   records over block 40: 0
+";
+
+const SHEET_PRINTED: &str = "\
+write_sheet: 0
+read_sheet: 0
+  changes: 4
+read_sheet of a damaged one: 32
+write_sheet of no change: 33
 ";
 
 const WARNINGS: [&str; 4] = ["-Wall", "-Wextra", "-pedantic", "-Werror"];
@@ -60,13 +63,13 @@ fn archives() -> [PathBuf; 2] {
     ["libtree_calls.a", "liblist_calls.a"].map(|name| dir.join(name))
 }
 
-fn compile(compiler: &str, language: &[&str], to: &Path) {
+fn compile(compiler: &str, language: &[&str], example: &str, to: &Path) {
     let output = Command::new(compiler)
         .args(language)
         .args(WARNINGS)
         .arg("-I")
         .arg(package())
-        .arg(package().join("examples/let_go.c"))
+        .arg(package().join("examples").join(example))
         // The archives are no source.
         .args(["-x", "none"])
         .args(archives())
@@ -88,9 +91,15 @@ fn compile(compiler: &str, language: &[&str], to: &Path) {
     );
 }
 
-fn compiled_and_run(compiler: &str, language: &[&str], name: &str) {
+fn compiled_and_run(
+    compiler: &str,
+    language: &[&str],
+    example: &str,
+    name: &str,
+    printed: &str,
+) {
     let program = Path::new(env!("CARGO_TARGET_TMPDIR")).join(name);
-    compile(compiler, language, &program);
+    compile(compiler, language, example, &program);
     let output = Command::new(&program)
         .output()
         .unwrap_or_else(|e| panic!("the compiled example does not start: {e}"));
@@ -100,17 +109,37 @@ fn compiled_and_run(compiler: &str, language: &[&str], name: &str) {
         output.status,
         String::from_utf8_lossy(&output.stderr)
     );
-    assert_eq!(String::from_utf8_lossy(&output.stdout), PRINTED);
+    assert_eq!(String::from_utf8_lossy(&output.stdout), printed);
+}
+
+fn let_go(compiler: &str, language: &[&str], name: &str) {
+    compiled_and_run(compiler, language, "let_go.c", name, PRINTED);
+}
+
+fn sheet(compiler: &str, language: &[&str], name: &str) {
+    compiled_and_run(compiler, language, "sheet.c", name, SHEET_PRINTED);
 }
 
 #[test]
 fn the_example_as_c() {
-    compiled_and_run("cc", &["-std=c99"], "let_go_c99");
-    compiled_and_run("cc", &["-std=c17"], "let_go_c17");
+    let_go("cc", &["-std=c99"], "let_go_c99");
+    let_go("cc", &["-std=c17"], "let_go_c17");
 }
 
 #[test]
 fn the_example_as_cpp() {
-    compiled_and_run("c++", &["-x", "c++", "-std=c++11"], "let_go_cpp11");
-    compiled_and_run("c++", &["-x", "c++", "-std=c++20"], "let_go_cpp20");
+    let_go("c++", &["-x", "c++", "-std=c++11"], "let_go_cpp11");
+    let_go("c++", &["-x", "c++", "-std=c++20"], "let_go_cpp20");
+}
+
+#[test]
+fn the_sheet_as_c() {
+    sheet("cc", &["-std=c99"], "sheet_c99");
+    sheet("cc", &["-std=c17"], "sheet_c17");
+}
+
+#[test]
+fn the_sheet_as_cpp() {
+    sheet("c++", &["-x", "c++", "-std=c++11"], "sheet_cpp11");
+    sheet("c++", &["-x", "c++", "-std=c++20"], "sheet_cpp20");
 }

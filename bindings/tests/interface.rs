@@ -261,7 +261,7 @@ fn rattle_functions(source: &str) -> Vec<Function> {
     for part in parts {
         let words: Vec<&str> = before.split_whitespace().collect();
         assert!(
-            words.ends_with(&["#[no_mangle]", "pub"]),
+            words.ends_with(&["#[unsafe(no_mangle)]", "pub"]),
             "an extern \"C\" that is not exported: {}",
             part.lines().next().unwrap_or("")
         );
@@ -656,6 +656,29 @@ fn the_three_texts_are_one_interface() {
     }
     let once: BTreeSet<&str> = c.names().into_iter().collect();
     assert_eq!(once.len(), c.functions.len(), "a function is there twice");
+}
+
+/// The archives are made of crates of their own, whose functions are those of the
+/// libraries below them.
+#[test]
+fn the_archives_export_the_libraries() {
+    for name in ["tree_calls", "list_calls"] {
+        let exported = Text {
+            called: "the archive",
+            functions: rattle_functions(&read(&format!("crates/{name}_c/src/lib.rt"))),
+        };
+        let of_the_library = rattle_modules()
+            .into_iter()
+            .filter(|(module, _)| module.starts_with(&format!("{name}::")))
+            .flat_map(|(_, f)| f)
+            .collect();
+        let library = Text {
+            called: "Rattle",
+            functions: of_the_library,
+        };
+        assert!(!exported.functions.is_empty());
+        hold(differences(&library, &exported));
+    }
 }
 
 /// kf.h has the functions of an archive together, and those of a module in the
@@ -1140,7 +1163,7 @@ fn a_missing_function_is_found() {
         ["kf_check_rmaps is in Rattle, not in kf.h"]
     );
     // A function that Rattle exports and no other text has.
-    let more = "#[no_mangle]\npub extern \"C\" fn kf_more(\n    x: &mut [u32],\n    n: u16,\n) -> u32\n    ensures { .. }\n{\n}\n";
+    let more = "#[unsafe(no_mangle)]\npub extern \"C\" fn kf_more(\n    x: &mut [u32],\n    n: u16,\n) -> u32\n    ensures { .. }\n{\n}\n";
     let mut rattle = rattle();
     rattle.functions.extend(rattle_functions(more));
     assert_eq!(
