@@ -3,17 +3,16 @@
 use Prim.Native.Nat.{ℕ, ◌+◌, ◌-◌, ◌*◌, ◌/◌, ◌<◌, ◌≤◌, ◌^◌}
 use mathlib.Core.Path.{◌≡◌, refl, ap, sym, ◌∙◌}
 use mathlib.Core.Bool.{Bool, true, false, cond, ◌&&◌, false≢true}
-use mathlib.Core.Logic.{◌⊎◌, inl, inr}
 use mathlib.Core.List.{List, [], ◌∷◌}
 use native.Mathlib.Omega.{arith}
-use native.Mathlib.Nat.{sub-eq-zero_of_le, zero-div, le_refl, le_of_lt, mul-le-mul, mul-add, le-div_iff_mul-le}
+use native.Mathlib.Nat.{le_refl, mul-le-mul, mul-add, le-div_iff_mul-le}
 use native.Mathlib.Decide.{dec_le}
 use native.Mathlib.Numerals.{add-one}
 use borrow.Author.Tests.{leb-true, ltb-true, eqb-true, eq-eqb, ne_eqb, le-leb, lt-leb, lt-ltb, le-ltb}
 use lib.Dec.{lit≤, leb, ltb, eqb}
+use lib.Pointwise.{pointwise}
 use lib.ListN.{length, get_or, drop, drop_of_length-le}
-use lib.Seq.{drop-cons, get_or-take, get_or-drop}
-use Rattle.codec.specs.Bytes.{bytes_at}
+use lib.Seq.{drop-cons}
 use Rattle.blocks.specs.Check.{same}
 use Rattle.blocks.specs.Geometry.{among, is_version, is_block_size, linear_of, address_of, geometry_ok}
 use Rattle.blocks.specs.Offsets.{v4_header_len, v5_header_len}
@@ -23,24 +22,6 @@ use Rattle.blocks.specs.declared.kind.TreeKind.{TreeKind}
 use Rattle.blocks.specs.declared.kind.TreeKind.TheVariants.{Rmap, Refcount, ByBlock, BySize}
 
 -- ---- one number of a list
-
--- a number is one of a list, as a `match` on single numbers has it
-abbrev pub OneOf : ℕ → ℕ → List ℕ → Type 0
-OneOf n x [] = n ≡ x
-OneOf n x (y ∷ ys) = (n ≡ x) ⊎ OneOf n y ys
-
-pub among-true : (n x : ℕ) (xs : List ℕ) → OneOf n x xs → true ≡ among n (x ∷ xs)
-among-true n x [] h = rw (eq-eqb n x h)
-among-true n x (y ∷ ys) (inl h) = rw (eq-eqb n x h)
-among-true n x (y ∷ ys) (inr h) = first (eqb n x) (among-true n y ys h)
-  where
-    first : (t : Bool) → true ≡ among n (y ∷ ys) → true ≡ cond t true (among n (y ∷ ys))
-    first true e = refl
-    first false e = e
-
-pub among-false : (n x : ℕ) (xs : List ℕ) → (OneOf n x xs → ⊥) → false ≡ among n (x ∷ xs)
-among-false n x [] h = rw (ne_eqb n x h)
-among-false n x (y ∷ ys) h = rw (ne_eqb n x (λ e. h (inl e))) (among-false n y ys (λ e. h (inr e)))
 
 pub both_left : (p q : Bool) → p && q ≡ true → p ≡ true
 both_left true q e = refl
@@ -202,9 +183,6 @@ pub header-four : (version : ℕ) → eqb version 5 ≡ false → header_len ver
 unfolding header_len
 header-four version e = rw e
 
-pub short-holds-none : (kind : TreeKind) (version level len : ℕ) → len < header_len version → 0 ≡ capacity kind version level len
-short-holds-none kind version level len h = rw (sub-eq-zero_of_le (le_of_lt h), zero-div)
-
 module _ (kind : TreeKind) (version level len : ℕ) where
   place-pos : 0 < place_len kind level
   place-pos = omega (arith, place-least kind level)
@@ -247,6 +225,17 @@ module _ (g : Geometry) (kind : TreeKind) (level : ℕ) (ok : geometry_ok g ≡ 
 
 -- ---- two lists compared from the front
 
+-- as the library compares them
+pub same-is : (xs ys : List ℕ) → pointwise eqb xs ys ≡ same xs ys
+same-is [] [] = refl
+same-is [] (y ∷ ys) = refl
+same-is (x ∷ xs) [] = refl
+same-is (x ∷ xs) (y ∷ ys) = go (eqb x y) (same-is xs ys)
+  where
+    go : (t : Bool) → pointwise eqb xs ys ≡ same xs ys → (t && pointwise eqb xs ys) ≡ cond t (same xs ys) false
+    go true e = e
+    go false e = refl
+
 module _ (xs ys : List ℕ) (i : ℕ) (hx : i < length xs) (hy : i < length ys) where
   pub same_next : get_or xs i 0 ≡ get_or ys i 0 → same (drop i xs) (drop i ys) ≡ same (drop (i + 1) xs) (drop (i + 1) ys)
   same_next e = rw (add-one, drop-cons xs i 0 hx, drop-cons ys i 0 hy, eq-eqb _ _ e)
@@ -260,8 +249,3 @@ same_end xs ys i hx hy = rw (drop_of_length-le xs {i = i} hx, drop_of_length-le 
 pub same-all : (xs : List ℕ) → same xs xs ≡ true
 same-all [] = refl
 same-all (x ∷ xs) = rw (eq-eqb x x refl) (same-all xs)
-
--- an element of a part is an element of the whole
-pub bytes_at-at : (b : List ℕ) (at n i : ℕ) → i < n → get_or (bytes_at b at n) i 0 ≡ get_or b (at + i) 0
-unfolding bytes_at
-bytes_at-at b at n i h = rw (get_or-take, get_or-drop)

@@ -13,8 +13,7 @@ use Rattle.blocks.specs.declared.check.Field.TheVariants.{Magic, Crc, Owner, Add
 use Rattle.blocks.specs.declared.check.BlockRefusal.{BlockRefusal}
 use Rattle.blocks.specs.declared.check.BlockRefusal.TheVariants.{BadGeometry, Short, NoTree, Uuid, BadField}
 use Rattle.blocks.specs.declared.check.Header.{Header}
-use Rattle.blocks.specs.declared.check.Checked.{Checked}
-use Rattle.blocks.specs.declared.check.Checked.TheVariants.{Good, Refused}
+use Rattle.std.specs.Prelude.{Result, Ok, Err}
 use Rattle.blocks.specs.Refusal.{refusal_number, refusal_values, checked_outcome}
 use Rattle.blocks.specs.Check.{block_questions, check_block}
 
@@ -37,18 +36,18 @@ refusal-back (BadField (Sequence e f)) = refl
 refusal-back (BadField (Level e f)) = refl
 refusal-back (BadField (Records e f)) = refl
 
-abbrev checked_of : Outcome Header → Checked
-checked_of (done h) = Good h
-checked_of (refused n v) = Refused (refusal_of n v)
+abbrev checked_of : Outcome Header → Result Header BlockRefusal
+checked_of (done h) = Ok h
+checked_of (refused n v) = Err (refusal_of n v)
 
-checked-back : (r : Checked) → checked_of (checked_outcome r) ≡ r
-checked-back (Good h) = refl
-checked-back (Refused f) = ap Refused (refusal-back f)
+checked-back : (r : Result Header BlockRefusal) → checked_of (checked_outcome r) ≡ r
+checked-back (Ok h) = refl
+checked-back (Err f) = ap Err (refusal-back f)
 
-pub checked-apart : (r s : Checked) → checked_outcome r ≡ checked_outcome s → r ≡ s
+pub checked-apart : (r s : Result Header BlockRefusal) → checked_outcome r ≡ checked_outcome s → r ≡ s
 checked-apart r s e = sym (checked-back r) ∙ ap checked_of e ∙ checked-back s
 
 -- a refusal: the question of its number failed, with those values, and all before it held
-pub refusal-means : (g : Geometry) (kind : TreeKind) (block level : ℕ) (b : List ℕ) (f : BlockRefusal) → checked_outcome (Refused f) ≡ check_block g kind block level b → Failed (block_questions g kind block level b) (refusal_number f) (refusal_values f)
+pub refusal-means : (g : Geometry) (kind : TreeKind) (block level : ℕ) (b : List ℕ) (f : BlockRefusal) → checked_outcome (Err f) ≡ check_block g kind block level b → Failed (block_questions g kind block level b) (refusal_number f) (refusal_values f)
 unfolding check_block
 refusal-means g kind block level b f e = refused-means (block_questions g kind block level b) _ (refusal_number f) (refusal_values f) (sym e)

@@ -1,14 +1,12 @@
 -- The number (docs/QUESTIONS.md) and the values of each case of a refusal, and what a check of a block comes to.
 -- Assumes nothing.
-use Rattle.std.specs.Prelude.{ℕ}
+use Rattle.std.specs.Prelude.{ℕ, Result, Ok, Err}
 use Rattle.codec.specs.Question.{Values, none, two, Outcome, done, refused}
 use Rattle.blocks.specs.declared.check.Field.{Field}
 use Rattle.blocks.specs.declared.check.Field.TheVariants.{Magic, Crc, Owner, Address, Sequence, Level, Records}
 use Rattle.blocks.specs.declared.check.BlockRefusal.{BlockRefusal}
 use Rattle.blocks.specs.declared.check.BlockRefusal.TheVariants.{BadGeometry, Short, NoTree, Uuid, BadField}
 use Rattle.blocks.specs.declared.check.Header.{Header}
-use Rattle.blocks.specs.declared.check.Checked.{Checked}
-use Rattle.blocks.specs.declared.check.Checked.TheVariants.{Good, Refused}
 
 abbrev pub field_number : Field → ℕ
 field_number (Magic e f) = 4
@@ -42,6 +40,6 @@ refusal_values NoTree = none
 refusal_values Uuid = none
 refusal_values (BadField f) = field_values f
 
-abbrev pub checked_outcome : Checked → Outcome Header
-checked_outcome (Good h) = done h
-checked_outcome (Refused f) = refused (refusal_number f) (refusal_values f)
+abbrev pub checked_outcome : Result Header BlockRefusal → Outcome Header
+checked_outcome (Ok h) = done h
+checked_outcome (Err f) = refused (refusal_number f) (refusal_values f)

@@ -1,8 +1,9 @@
 // The check of one block: questions 1 to 8, 30, 9 and 10 of docs/QUESTIONS.md, in this order.
-ghost use Rattle.std.specs.Prelude.{◌≡◌, true, ◌≤◌, length};
+#![tactic(auto, unfolding(crate::specs::Check::check_block))]
+
+ghost use Rattle.std.specs.Prelude.{◌≡◌, true, false, ◌≤◌, length, MatchResult};
 ghost use Rattle.blocks.specs.Geometry.{geometry_ok};
-ghost use Rattle.blocks.specs.Tree.{header_len};
-ghost use Rattle.blocks.specs.Offsets.{v5_header_len};
+ghost use Rattle.blocks.specs.Offsets.{v4_header_len, v5_header_len};
 ghost use Rattle.blocks.specs.Refusal.{field_number, field_values, refusal_number, refusal_values, checked_outcome};
 ghost use Rattle.blocks.specs.Check.{check_block};
 ghost use Rattle.blocks.specs.Inner.CheckParts.{content_outcome, identity_outcome};
@@ -17,7 +18,8 @@ use codec::endian::{be16, be32, be64, le32};
 use codec::refusal::Told;
 
 // A field of the header that failed, with what was expected and what was found.
-#[derive(Clone, Copy)]
+// A name beside a pair of numbers would be no plainer where a question is asked, and theorems of walks tell these seven cases apart.
+#[derive(Clone, Copy, Debug, PartialEq, Eq)]
 pub enum Field {
     Magic { expected: u64, found: u64 },
     Crc { expected: u64, found: u64 },
@@ -29,7 +31,7 @@ pub enum Field {
 }
 
 // Why a block is refused. The number of each case is `refusal_number` of specs/Refusal.antt; docs/QUESTIONS.md has its question.
-#[derive(Clone, Copy)]
+#[derive(Clone, Copy, Debug, PartialEq, Eq)]
 pub enum BlockRefusal {
     // the geometry is none: 1
     BadGeometry,
@@ -43,12 +45,12 @@ pub enum BlockRefusal {
     BadField(Field),
 }
 
-impl Field {
-    // The number of the field's question, and its values.
-    pub(crate) fn told(self) -> Told
-        ensures { Tells result (field_number self) (field_values self) }
-    {
-        match self {
+// The number of the field's question, and its values.
+impl From<Field> for Told {
+    ghost from_gives = { λ f t. Tells t (field_number f) (field_values f) };
+
+    fn from(f: Field) -> Told {
+        match f {
             Field::Magic { expected, found } => Told::two(4, expected, found),
             Field::Crc { expected, found } => Told::two(5, expected, found),
             Field::Owner { expected, found } => Told::two(7, expected, found),
@@ -60,23 +62,23 @@ impl Field {
     }
 }
 
-impl BlockRefusal {
-    // The number of the question that failed, and its values.
-    pub fn told(self) -> Told
-        ensures { Tells result (refusal_number self) (refusal_values self) }
-    {
-        match self {
+// The number of the question that failed, and its values.
+impl From<BlockRefusal> for Told {
+    ghost from_gives = { λ r t. Tells t (refusal_number r) (refusal_values r) };
+
+    fn from(r: BlockRefusal) -> Told {
+        match r {
             BlockRefusal::BadGeometry => Told::plain(1),
             BlockRefusal::Short => Told::plain(2),
             BlockRefusal::NoTree => Told::plain(3),
             BlockRefusal::Uuid => Told::plain(6),
-            BlockRefusal::BadField(f) => f.told(),
+            BlockRefusal::BadField(f) => Told::from(f),
         }
     }
 }
 
 // A header that has been read and checked.
-#[derive(Clone, Copy)]
+#[derive(Clone, Copy, Debug, PartialEq, Eq)]
 pub struct Header {
     pub level: u16,
     pub numrecs: u16,
@@ -89,114 +91,87 @@ pub struct Header {
     pub maxrecs: usize,
 }
 
-#[derive(Clone, Copy)]
-pub enum Checked {
-    Good(Header),
-    Refused(BlockRefusal),
+// A question: where it does not hold the block is refused.
+fn ask(holds: bool, refusal: BlockRefusal) -> Result<(), BlockRefusal>
+    ensures { MatchResult result (λ _. holds ≡ true) (λ r. (holds ≡ false) × (r ≡ refusal)) }
+{
+    if holds { Ok(()) } else { Err(refusal) }
+}
+
+// A question on a field of the header.
+fn ask_field(holds: bool, field: Field) -> Result<(), BlockRefusal>
+    ensures { MatchResult result (λ _. holds ≡ true) (λ r. (holds ≡ false) × (r ≡ BlockRefusal.BadField field)) }
+{
+    ask(holds, BlockRefusal::BadField(field))
 }
 
 // Questions 9 and 10.
-fn check_contents(g: Geometry, kind: TreeKind, level: u16, b: &[u8]) -> Checked
-    requires { header_len g.version ≤ length b.now }
+fn check_contents(g: Geometry, kind: TreeKind, level: u16, b: &[u8]) -> Result<Header, BlockRefusal>
+    requires { v4_header_len ≤ length b.now }
     ensures { checked_outcome result ≡ content_outcome g kind level b.now }
 {
-    let version = g.version;
-    let found = be16(b, offsets::LEVEL);
-    if found != level {
-        return Checked::Refused(BlockRefusal::BadField(Field::Level {
-            expected: level as u64,
-            found: found as u64,
-        }));
-    }
-    let maxrecs = block_capacity(kind, version, level, b.len());
+    let expected = level as u64;
+    let found = be16(b, offsets::LEVEL) as u64;
+    ask_field(found == expected, Field::Level { expected, found })?;
+    let maxrecs = block_capacity(kind, g.version, level, b.len());
     let numrecs = be16(b, offsets::NUMRECS);
-    if maxrecs < (numrecs as usize) {
-        return Checked::Refused(BlockRefusal::BadField(Field::Records {
-            expected: maxrecs as u64,
-            found: numrecs as u64,
-        }));
-    }
-    let left = be32(b, offsets::LEFT_SIBLING);
-    let right = be32(b, offsets::RIGHT_SIBLING);
-    let body = header_len(version);
-    Checked::Good(Header {
-        level: level,
-        numrecs: numrecs,
-        leftsib: AgBlock(left),
-        rightsib: AgBlock(right),
-        body: body,
-        maxrecs: maxrecs,
+    let expected = maxrecs as u64;
+    let found = numrecs as u64;
+    ask_field(found <= expected, Field::Records { expected, found })?;
+    Ok(Header {
+        level,
+        numrecs,
+        leftsib: AgBlock(be32(b, offsets::LEFT_SIBLING)),
+        rightsib: AgBlock(be32(b, offsets::RIGHT_SIBLING)),
+        body: header_len(g.version),
+        maxrecs,
     })
 }
 
 // Questions 5 to 8 and 30, on version 5, then 9 and 10.
-fn check_identity(g: Geometry, kind: TreeKind, block: AgBlock, level: u16, b: &[u8]) -> Checked
-    requires { (geometry_ok g ≡ true) × (header_len g.version ≤ length b.now) × (v5_header_len ≤ length b.now) }
+fn check_identity(
+    g: Geometry,
+    kind: TreeKind,
+    block: AgBlock,
+    level: u16,
+    b: &[u8],
+) -> Result<Header, BlockRefusal>
+    requires { (geometry_ok g ≡ true) × (v5_header_len ≤ length b.now) }
     ensures { checked_outcome result ≡ identity_outcome g kind block.0 level b.now }
 {
-    let crc = crc32c_with_zeroed_crc(b, offsets::CRC);
-    let stored = le32(b, offsets::CRC);
-    if stored != crc {
-        return Checked::Refused(BlockRefusal::BadField(Field::Crc {
-            expected: crc as u64,
-            found: stored as u64,
-        }));
-    }
-    let uuid = g.meta_uuid;
-    if !is_uuid(b, offsets::UUID, uuid) {
-        return Checked::Refused(BlockRefusal::Uuid);
-    }
-    let agno = g.agno;
-    let owner = be32(b, offsets::OWNER);
-    if owner != agno {
-        return Checked::Refused(BlockRefusal::BadField(Field::Owner {
-            expected: agno as u64,
-            found: owner as u64,
-        }));
-    }
-    let address = block.linear(g).address(g).0;
-    let stated = be64(b, offsets::BLKNO);
-    if stated != address {
-        return Checked::Refused(BlockRefusal::BadField(Field::Address {
-            expected: address,
-            found: stated,
-        }));
-    }
-    let last = g.last_lsn;
-    let lsn = be64(b, offsets::LSN);
-    if last < lsn {
-        return Checked::Refused(BlockRefusal::BadField(Field::Sequence {
-            expected: last,
-            found: lsn,
-        }));
-    }
+    let expected = crc32c_with_zeroed_crc(b, offsets::CRC) as u64;
+    let found = le32(b, offsets::CRC) as u64;
+    ask_field(found == expected, Field::Crc { expected, found })?;
+    ask(is_uuid(b, offsets::UUID, g.meta_uuid), BlockRefusal::Uuid)?;
+    let expected = g.agno as u64;
+    let found = be32(b, offsets::OWNER) as u64;
+    ask_field(found == expected, Field::Owner { expected, found })?;
+    let expected = block.linear(g).address(g).0;
+    let found = be64(b, offsets::BLKNO);
+    ask_field(found == expected, Field::Address { expected, found })?;
+    let expected = g.last_lsn;
+    let found = be64(b, offsets::LSN);
+    ask_field(found <= expected, Field::Sequence { expected, found })?;
     check_contents(g, kind, level, b)
 }
 
 // Questions 1 to 8, 30, 9 and 10 on a block of a tree: `block` is its number in the group, `level` the level it should have, `b` its bytes.
-pub fn check_block(g: Geometry, kind: TreeKind, block: AgBlock, level: u16, b: &[u8]) -> Checked
+pub fn check_block(
+    g: Geometry,
+    kind: TreeKind,
+    block: AgBlock,
+    level: u16,
+    b: &[u8],
+) -> Result<Header, BlockRefusal>
     ensures { checked_outcome result ≡ check_block g kind block.0 level b.now }
 {
-    if !g.is_ok() {
-        return Checked::Refused(BlockRefusal::BadGeometry);
-    }
-    let version = g.version;
-    let header = header_len(version);
-    if b.len() < header {
-        return Checked::Refused(BlockRefusal::Short);
-    }
-    if !kind.is_in(version) {
-        return Checked::Refused(BlockRefusal::NoTree);
-    }
-    let magic = kind.magic(version);
-    let found = be32(b, offsets::MAGIC);
-    if found != magic {
-        return Checked::Refused(BlockRefusal::BadField(Field::Magic {
-            expected: magic as u64,
-            found: found as u64,
-        }));
-    }
-    if version == 5 {
+    ask(g.is_ok(), BlockRefusal::BadGeometry)?;
+    ask(header_len(g.version) <= b.len(), BlockRefusal::Short)?;
+    ask(kind.is_in(g.version), BlockRefusal::NoTree)?;
+    let expected = kind.magic(g.version) as u64;
+    let found = be32(b, offsets::MAGIC) as u64;
+    ask_field(found == expected, Field::Magic { expected, found })?;
+    if g.version == 5 {
         check_identity(g, kind, block, level, b)
     } else {
         check_contents(g, kind, level, b)

@@ -1,4 +1,6 @@
 // The kinds of tree, by their lengths.
+#![tactic(auto, unfolding(crate::specs::Tree::header_len))]
+
 ghost use Rattle.std.specs.Prelude.{◌≡◌};
 ghost use Rattle.blocks.specs.Tree.{by_version, header_len, has_tree, magic_of, overlapping, record_len, keys_len, entry_len, place_len, capacity};
 
@@ -16,7 +18,7 @@ const REFCOUNT_KEY_LEN: usize = 4;
 // A pointer of a node: a block number of the group.
 pub const PTR_LEN: usize = 4;
 
-#[derive(Clone, Copy)]
+#[derive(Clone, Copy, Debug, PartialEq, Eq)]
 pub enum TreeKind {
     Rmap,
     Refcount,
@@ -26,7 +28,7 @@ pub enum TreeKind {
     BySize,
 }
 
-// What a version has of two numbers, that of 4 and that of 5.
+// What a version has of two numbers, that of 4 and that of 5. `header_len` chooses among lengths, of another type: one generic choice is no plainer.
 fn by_version(version: u16, four: u32, five: u32) -> u32
     ensures { result ≡ by_version version four five }
 {
@@ -39,10 +41,8 @@ impl TreeKind {
         ensures { result ≡ has_tree self version }
     {
         match self {
-            TreeKind::Rmap => version == 5,
-            TreeKind::Refcount => version == 5,
-            TreeKind::ByBlock => true,
-            TreeKind::BySize => true,
+            TreeKind::Rmap | TreeKind::Refcount => version == 5,
+            TreeKind::ByBlock | TreeKind::BySize => true,
         }
     }
 
@@ -62,12 +62,7 @@ impl TreeKind {
     pub fn is_overlapping(self) -> bool
         ensures { result ≡ overlapping self }
     {
-        match self {
-            TreeKind::Rmap => true,
-            TreeKind::Refcount => false,
-            TreeKind::ByBlock => false,
-            TreeKind::BySize => false,
-        }
+        matches!(self, TreeKind::Rmap)
     }
 
     // The length of a record.
@@ -77,8 +72,7 @@ impl TreeKind {
         match self {
             TreeKind::Rmap => RMAP_LEN,
             TreeKind::Refcount => REFCOUNT_LEN,
-            TreeKind::ByBlock => EXTENT_LEN,
-            TreeKind::BySize => EXTENT_LEN,
+            TreeKind::ByBlock | TreeKind::BySize => EXTENT_LEN,
         }
     }
 
@@ -89,8 +83,7 @@ impl TreeKind {
         match self {
             TreeKind::Rmap => RMAP_KEY_LEN * 2,
             TreeKind::Refcount => REFCOUNT_KEY_LEN,
-            TreeKind::ByBlock => EXTENT_LEN,
-            TreeKind::BySize => EXTENT_LEN,
+            TreeKind::ByBlock | TreeKind::BySize => EXTENT_LEN,
         }
     }
 
@@ -128,10 +121,5 @@ pub fn header_len(version: u16) -> usize
 pub fn block_capacity(kind: TreeKind, version: u16, level: u16, len: usize) -> usize
     ensures { result ≡ capacity kind version level len }
 {
-    let header = header_len(version);
-    let place = kind.place_len(level);
-    if len < header {
-        return 0;
-    }
-    (len - header) / place
+    len.saturating_sub(header_len(version)) / kind.place_len(level)
 }

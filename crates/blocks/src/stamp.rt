@@ -35,8 +35,7 @@ fn stamp_plain(
     requires { v4_header_len ≤ length b.old }
     ensures { b.new ≡ with_bytes b.old magic_at (plain_head kind version level numrecs left.0 right.0) }
 {
-    let magic = kind.magic(version);
-    put_be32(b, offsets::MAGIC, magic);
+    put_be32(b, offsets::MAGIC, kind.magic(version));
     put_be16(b, offsets::LEVEL, level);
     put_be16(b, offsets::NUMRECS, numrecs);
     stamp_siblings(left, right, b);
@@ -47,18 +46,14 @@ fn stamp_identity(g: Geometry, block: AgBlock, b: &mut [u8])
     requires { (geometry_ok g ≡ true) × (crc_at ≤ length b.old) }
     ensures { b.new ≡ with_bytes b.old blkno_at (identity_head g block.0) }
 {
-    let address = block.linear(g).address(g).0;
-    let uuid = g.meta_uuid;
-    let agno = g.agno;
-    let last = g.last_lsn;
-    put_be64(b, offsets::BLKNO, address);
-    put_be64(b, offsets::LSN, last);
-    copy(&uuid, b, offsets::UUID);
-    put_be32(b, offsets::OWNER, agno);
+    put_be64(b, offsets::BLKNO, block.linear(g).address(g).0);
+    put_be64(b, offsets::LSN, g.last_lsn);
+    copy(&g.meta_uuid, b, offsets::UUID);
+    put_be32(b, offsets::OWNER, g.agno);
 }
 
 // The header of a fresh block: on version 5 all of its fields, with the check, on version 4 those of every version. The check is over all of `b`, so
-// what stands after the header has to be there already. The caller has asked questions 1 to 3.
+// what stands after the header has to be there already. The caller has asked questions 1 to 3. The parameters are those of the public promise.
 pub fn stamp(
     g: Geometry,
     kind: TreeKind,
@@ -72,9 +67,8 @@ pub fn stamp(
     requires { (geometry_ok g ≡ true) × (has_tree kind g.version ≡ true) × (header_len g.version ≤ length b.old) }
     ensures { b.new ≡ stamped g kind block.0 level numrecs left.0 right.0 b.old }
 {
-    let version = g.version;
-    stamp_plain(kind, version, level, numrecs, left, right, b);
-    if version == 5 {
+    stamp_plain(kind, g.version, level, numrecs, left, right, b);
+    if g.version == 5 {
         stamp_identity(g, block, b);
         let crc = crc32c_with_zeroed_crc(b, offsets::CRC);
         put_le32(b, offsets::CRC, crc);

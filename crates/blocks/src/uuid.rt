@@ -8,12 +8,5 @@ pub(crate) fn is_uuid(b: &[u8], at: usize, uuid: [u8; 16]) -> bool
     requires { at + 16 ≤ length b.now }
     ensures { result ≡ same (bytes_at b.now at 16) uuid }
 {
-    let mut i = 0;
-    while i < 16 {
-        if b[at + i] != uuid[i] {
-            return false;
-        }
-        i += 1;
-    }
-    true
+    b[at..at + 16] == uuid[..]
 }

@@ -5,23 +5,14 @@
 ghost use Rattle.std.specs.Prelude.{◌≤◌, length};
 ghost use Rattle.blocks.specs.Offsets.{v5_header_len};
 
-use blocks::check::{Checked, Header, check_block};
+use blocks::check::{BlockRefusal, Header, check_block};
 use blocks::geometry::{AgBlock, Geometry};
 use blocks::kind::TreeKind;
+use blocks::offsets::V5_HEADER_LEN;
 use codec::endian::be64;
-use show::lines::show_told;
+use codec::refusal::Told;
+use show::lines::{newline, number, show_told};
 use show::samples::{at_lsn, between, damage, fresh, geometry};
-
-// A name, and a number in decimal.
-fn number(name: &[u8], n: u64) {
-    io::write_all(1, name);
-    io::print_decimal(1, n);
-}
-
-// The end of a line.
-fn newline() {
-    io::write_all(1, b"\n");
-}
 
 fn show_good(h: Header) {
     number(b" good level ", h.level as u64);
@@ -32,12 +23,12 @@ fn show_good(h: Header) {
     number(b" right ", h.rightsib.0 as u64);
 }
 
-fn show(name: &[u8], answer: Checked) {
+fn show(name: &[u8], answer: Result<Header, BlockRefusal>) {
     io::write_all(1, name);
     match answer {
-        Checked::Good(h) => show_good(h),
-        Checked::Refused(r) => {
-            show_told(r.told());
+        Ok(h) => show_good(h),
+        Err(r) => {
+            show_told(Told::from(r));
         }
     }
     newline();
@@ -51,10 +42,10 @@ fn group(version: u16) -> Geometry {
 // Another geometry, with a buffer of no bytes: 1, or 2 where the geometry is good.
 fn show_geometry(name: &[u8], version: u16, blocksize: u32, agno: u32, agblocks: u32) {
     let g = Geometry {
-        version: version,
-        blocksize: blocksize,
-        agblocks: agblocks,
-        agno: agno,
+        version,
+        blocksize,
+        agblocks,
+        agno,
         meta_uuid: [0u8; 16],
         last_lsn: 0,
     };
@@ -152,21 +143,14 @@ fn show_header() {
     words(&b);
 }
 
+// As many bytes as a header has, eight at a time.
 fn words(b: &[u8])
     requires { v5_header_len ≤ length b.now }
 {
-    word(be64(b, 0));
-    word(be64(b, 8));
-    word(be64(b, 16));
-    word(be64(b, 24));
-    word(be64(b, 32));
-    word(be64(b, 40));
-    word(be64(b, 48));
-}
-
-fn word(n: u64) {
-    io::print_hex(1, n, 16);
-    newline();
+    for eight in b[..V5_HEADER_LEN].chunks_exact(8) {
+        io::print_hex(1, be64(eight, 0), 16);
+        newline();
+    }
 }
 
 fn geometries() {

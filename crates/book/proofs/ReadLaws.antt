@@ -11,9 +11,6 @@ use Rattle.blocks.specs.declared.geometry.Geometry.{Geometry}
 use Rattle.blocks.specs.declared.kind.TreeKind.{TreeKind}
 use Rattle.blocks.specs.Geometry.{geometry_ok}
 use Rattle.walks.specs.declared.visit.Count.{Count}
-use Rattle.walks.specs.declared.visit.Verdict.{Verdict}
-use Rattle.walks.specs.declared.visit.Verdict.TheVariants.{Refused}
-use Rattle.walks.specs.declared.refusal.WalkRefusal.{WalkRefusal}
 use Rattle.walks.specs.Walk.{Visit, visit_of, Look, bad, good, Trace, Shape, block_in, look_in}
 use Rattle.walks.specs.Shapes.{shape_of}
 use Rattle.walks.specs.Path.{child_at, fan_of, every, due_in}
@@ -22,8 +19,6 @@ use Rattle.walks.specs.Underway.{Walking}
 use Rattle.walks.proofs.WalkLaws.{step-good}
 use Rattle.walks.proofs.PathLaws.{due-next}
 use Rattle.walks.proofs.DescendLaws.{Looked, looked, due_below, walking-visit}
-use Rattle.book.specs.declared.subtree.Limits.{Limits}
-use Rattle.book.specs.Inner.Subtree.{Reached}
 
 -- ---- the measure
 
@@ -36,7 +31,7 @@ less {x} e h = subst (λ (k : ℕ). x < k) e h
 -- a visit that was accepted found what is below its block, and its records
 pub step-found : (places room : ℕ) (c n : Count) (l : Look) → step_of places room c l ≡ done n → (below : List Visit) × (bytes : List ℕ) × (l ≡ good below bytes)
 unfolding step_of
-step-found places room c n (bad k x) e = let z : ◌≡◌ {A = ℕ} 0 1 = cc in absurd (omega arith)
+step-found places room c n (bad k x) e = cc
 step-found places room c n (good below bytes) e = (below, bytes, refl)
 
 module _ (g : Geometry) (kind : TreeKind) (image : List ℕ) (block level places room : ℕ) (c n : Count) where
@@ -99,10 +94,3 @@ pub child-next : (s : Shape) (image : List ℕ) (node level i b : ℕ) → i < f
 child-next s image node level i b h e =
     due-next every s image level node i h
     ∙ ap (λ (x : ℕ). visit_of x (level - 1) ∷ due_in every s image level node (i + 1)) (sym e)
-
--- a refusal ends the walk, whatever was due later
-pub ended : (look : Visit → Look) (l : Limits) (room room' w : ℕ) (total : Trace) (out₀ scratch out : List ℕ) (v : Verdict) (f : WalkRefusal) (c : Count) (later later' : List Visit)
-    → v ≡ Refused f → Reached look l room w total out₀ scratch out v c later → Reached look l room' w total out₀ scratch out v c later'
-ended look l room room' w total out₀ scratch out v f c later later' e h =
-    subst (λ (x : Verdict). Reached look l room' w total out₀ scratch out x c later') (sym e)
-    (subst (λ (x : Verdict). Reached look l room w total out₀ scratch out x c later) e h)

@@ -5,6 +5,7 @@ use native.Mathlib.Omega.{arith}
 use mathlib.Core.Path.{◌≡◌, refl, sym, ◌∙◌}
 use mathlib.Core.List.{List, [], ◌∷◌, ◌++◌}
 use lib.ListN.{replicate}
+use Rattle.std.specs.Prelude.{Result, Ok, Err}
 use Rattle.codec.specs.Bytes as bytes
 use Rattle.codec.specs.Question.{none, done, refused}
 use Rattle.blocks.specs.declared.geometry.Geometry.{Geometry}
@@ -16,7 +17,8 @@ use Rattle.walks.specs.Walk as walk
 use Rattle.walks.specs.Walk.{visit_of, Trace, finished, failed, met}
 use Rattle.walks.specs.WalkCall.{Lent, walk_of, report_of}
 use Rattle.walks.specs.LargerStack.{on_stack, Alike}
-use Rattle.walks.specs.declared.walk.Walked.TheVariants.{Read, Refused}
+use Rattle.walks.specs.declared.walk.Walked.{Walked}
+use Rattle.walks.specs.declared.refusal.StoppedWalk.{StoppedWalk}
 use Rattle.walks.specs.declared.refusal.WalkRefusal.TheVariants as why
 use Rattle.book.specs.Textbook as book
 use Rattle.book.specs.Textbook.{textbook_of}
@@ -89,19 +91,25 @@ abbrev three : List ℕ
 three = replicate 3 7
 
 -- both read the tree, and leave the same
-calls-read : Alike (Read 3 2 16) (Read 3 2 16) (replicate 3 0) (replicate 3 0) (0 ∷ 0 ∷ 1 ∷ []) (0 ∷ 0 ∷ 1 ∷ []) (extent ++ extent) (extent ++ extent)
+abbrev read : Result Walked StoppedWalk
+read = Ok (record { visits = 3; records = 2; bytes = 16 })
+
+calls-read : Alike read read (replicate 3 0) (replicate 3 0) (0 ∷ 0 ∷ 1 ∷ []) (0 ∷ 0 ∷ 1 ∷ []) (extent ++ extent) (extent ++ extent)
 unfolding walk.visits walk.records walk.at_level walk.by_level report_of bytes.with_bytes
 calls-read =
     every-textbook-call g kind.ByBlock image 1 2 (replicate 18 7) (replicate 18 0) three three (replicate 16 7) (omega arith)
-    (Read 3 2 16) (Read 3 2 16) (replicate 3 0) (replicate 3 0) (0 ∷ 0 ∷ 1 ∷ []) (0 ∷ 0 ∷ 1 ∷ []) (extent ++ extent) (extent ++ extent)
+    read read (replicate 3 0) (replicate 3 0) (0 ∷ 0 ∷ 1 ∷ []) (0 ∷ 0 ∷ 1 ∷ []) (extent ++ extent) (extent ++ extent)
     (rw book-reads (record { answer = refl; stack_is = refl; scratch_is = refl; blocks_are = refl; records_are = refl }))
     (rw stack-reads (record { answer = refl; stack_is = refl; scratch_is = refl; blocks_are = refl; records_are = refl }))
 
 -- both are refused by 15 after three visits, and leave zeros
-calls-cut : Alike (Refused why.Full 3) (Refused why.Full 3) (replicate 3 0) (replicate 3 0) (replicate 3 0) (replicate 3 0) (replicate 15 0) (replicate 15 0)
+abbrev full : Result Walked StoppedWalk
+full = Err (record { refusal = why.Full; visits = 3 })
+
+calls-cut : Alike full full (replicate 3 0) (replicate 3 0) (replicate 3 0) (replicate 3 0) (replicate 15 0) (replicate 15 0)
 unfolding walk.visits walk.records report_of
 calls-cut =
     every-textbook-call g kind.ByBlock image 1 2 (replicate 18 7) (replicate 18 0) three three (replicate 15 7) (omega arith)
-    (Refused why.Full 3) (Refused why.Full 3) (replicate 3 0) (replicate 3 0) (replicate 3 0) (replicate 3 0) (replicate 15 0) (replicate 15 0)
+    full full (replicate 3 0) (replicate 3 0) (replicate 3 0) (replicate 3 0) (replicate 15 0) (replicate 15 0)
     (rw book-cut (record { answer = refl; stack_is = refl; scratch_is = refl; blocks_are = refl; records_are = refl }))
     (rw stack-cut (record { answer = refl; stack_is = refl; scratch_is = refl; blocks_are = refl; records_are = refl }))

@@ -2,12 +2,13 @@
 -- leaves; and the claim that it is what the walk over a stack comes to, `EveryTextbook`, and so of two calls `EveryTextbookCall`. proofs/Same.antt proves them;
 -- proofs/SmallBook.antt has walks that meet their premises.
 -- Assumes nothing.
-use Rattle.std.specs.Prelude.{ℕ, zero, suc, ◌-◌, ◌≤◌, max, ◌≡◌, List, [], ◌∷◌, length}
+use Rattle.std.specs.Prelude.{ℕ, zero, suc, ◌-◌, ◌≤◌, max, ◌≡◌, List, [], ◌∷◌, length, Result}
 use Rattle.codec.specs.Question.{Outcome, done, answer}
 use Rattle.blocks.specs.declared.geometry.Geometry.{Geometry}
 use Rattle.blocks.specs.declared.kind.TreeKind.{TreeKind}
 use Rattle.blocks.specs.Tree.{record_len}
 use Rattle.walks.specs.declared.walk.Walked.{Walked}
+use Rattle.walks.specs.declared.refusal.StoppedWalk.{StoppedWalk}
 use Rattle.walks.specs.Walk.{Visit, visit_of, Look, Trace, finished, spent, failed, met, after, fit, Shape, look_in}
 use Rattle.walks.specs.Shapes.{shape_of}
 use Rattle.walks.specs.WalkCall.{Lent, lent, stack_places, first_questions, walk_of}
@@ -53,7 +54,7 @@ textbook_of g kind image root levels m =
     (done (textbook_in (shape_of g kind) image root levels (max g.agblocks 64) m.blocks m.bytes))
 
 -- a call's answer, and the three lent slices after it, where what it comes to is o: those of a walk with no stack
-abbrev pub TextbookIs : (w levels : ℕ) → Outcome Trace → Walked → (scratch scratch' blocks blocks' out out' : List ℕ) → Type 0
+abbrev pub TextbookIs : (w levels : ℕ) → Outcome Trace → Result Walked StoppedWalk → (scratch scratch' blocks blocks' out out' : List ℕ) → Type 0
 TextbookIs w levels o r scratch scratch' blocks blocks' out out' = WalkIs w levels o r [] [] scratch scratch' blocks blocks' out out'
 
 -- ---- the claim
@@ -71,7 +72,7 @@ abbrev pub EveryTextbookCall : Type 0
 EveryTextbookCall =
     (g : Geometry) (kind : TreeKind) (image : List ℕ) (root levels : ℕ) (stack stack' scratch blocks out : List ℕ)
     → stack_places ≤ length stack
-    → (r r' : Walked) (scratch₁ scratch₂ blocks₁ blocks₂ out₁ out₂ : List ℕ)
+    → (r r' : Result Walked StoppedWalk) (scratch₁ scratch₂ blocks₁ blocks₂ out₁ out₂ : List ℕ)
     → TextbookIs (record_len kind) levels (textbook_of g kind image root levels (lists scratch blocks out)) r scratch scratch₁ blocks blocks₁ out out₁
     → WalkIs (record_len kind) levels (walk_of g kind image root levels (lent stack scratch blocks out)) r'
     stack stack' scratch scratch₂ blocks blocks₂ out out₂

@@ -13,29 +13,29 @@ use crate::subtree::{Limits, read_block};
 use blocks::geometry::{AgBlock, Geometry};
 use blocks::kind::TreeKind;
 use walks::closing::{finish, read_all, wipe};
-use walks::first::{First, ask_first, limit_of};
+use walks::first::{ask_first, limit_of};
 use walks::path::STACK_PLACES;
-use walks::visit::{Count, Verdict};
+use walks::refusal::StoppedWalk;
+use walks::tree::TreeImage;
+use walks::visit::Count;
 use walks::walk::Walked;
 
 // The walk, once 1, 11 and 12 are asked.
 fn read_tree(
-    g: Geometry,
-    kind: TreeKind,
-    image: &[u8],
+    tree: &TreeImage,
     root: u32,
     levels: u32,
     scratch: &mut [u64],
     blocks: &mut [u32],
     out: &mut [u8],
-) -> Walked
-    requires { Begun (geometry_ok g) levels stack_places (length scratch.old) (length blocks.old) }
-    ensures { WalkIs (record_len kind) levels (done (walk_in (shape_of g kind) image.now root levels (max g.agblocks 64)
+) -> Result<Walked, StoppedWalk>
+    requires { Begun (geometry_ok tree.now.g) levels stack_places (length scratch.old) (length blocks.old) }
+    ensures { WalkIs (record_len tree.now.kind) levels (done (walk_in (shape_of tree.now.g tree.now.kind) tree.now.image.now root levels (max tree.now.g.agblocks 64)
         (length blocks.old) (length out.old))) result [] [] scratch.old scratch.new
         blocks.old blocks.new out.old out.new }
 {
     let limits = Limits {
-        visits: limit_of(g.agblocks),
+        visits: limit_of(tree.g.agblocks),
         blocks: blocks.len(),
     };
     let c = Count {
@@ -43,17 +43,14 @@ fn read_tree(
         bytes: 0,
     };
     let level = (levels - 1) as u16;
-    let tree = read_block(g, kind, image, root, level, limits, scratch, out, c);
-    let verdict = tree.verdict;
-    let visits = tree.count.visits;
-    match verdict {
-        Verdict::Refused(refusal) => {
+    match read_block(tree, root, level, limits, scratch, out, c) {
+        Err(stopped) => {
             wipe(scratch, blocks, out);
-            Walked::Refused { refusal, visits }
+            Err(stopped)
         }
-        Verdict::Read => {
-            finish(visits, levels as u64, scratch, blocks);
-            read_all(kind, tree.count)
+        Ok(count) => {
+            finish(count.visits, levels as u64, scratch, blocks);
+            Ok(read_all(tree.kind, count))
         }
     }
 }
@@ -71,15 +68,13 @@ pub fn walk_textbook(
     scratch: &mut [u64],
     blocks: &mut [u32],
     records: &mut [u8],
-) -> Walked
+) -> Result<Walked, StoppedWalk>
     ensures { TextbookIs (record_len kind) levels (textbook_of g kind image.now root.0 levels
         (lists scratch.old blocks.old records.old)) result scratch.old scratch.new
         blocks.old blocks.new records.old records.new }
 {
     // no stack is lent, so 12 finds nothing missing of one
-    let first = ask_first(g, levels, STACK_PLACES, scratch.len(), blocks.len());
-    match first {
-        First::Refused(refusal) => Walked::Refused { refusal, visits: 0 },
-        First::Ready => read_tree(g, kind, image, root.0, levels, scratch, blocks, records),
-    }
+    ask_first(g, levels, STACK_PLACES, scratch.len(), blocks.len())?;
+    let tree = TreeImage::new(g, kind, image);
+    read_tree(&tree, root.0, levels, scratch, blocks, records)
 }

@@ -8,184 +8,75 @@ mod full;
 use blocks::geometry::{AgBlock, Geometry};
 use blocks::kind::TreeKind;
 use book::textbook::walk_textbook;
-use check::same;
-use codec::endian::put_be32;
-use codec::refusal::{Told, Values};
-use show::lent::{show_blocks, show_state, show_tails};
-use show::lines::show_told;
-use show::places::all64;
-use show::samples::{damage, fresh, geometry};
+use codec::refusal::Told;
+use show::images::{damage_in, part, put_pointers};
+use show::lent::{Left, show_blocks, show_tails};
+use show::lines::{either, newline, number, show_told};
+use show::places::throughout;
+use show::samples::{fresh, geometry};
+use walks::refusal::StoppedWalk;
 use walks::walk::{Walked, walk};
-
-// A name, and a number in decimal.
-fn number(name: &[u8], n: u64) {
-    io::write_all(1, name);
-    io::print_decimal(1, n);
-}
-
-// The end of a line.
-fn newline() {
-    io::write_all(1, b"\n");
-}
-
-fn either(first: bool, a: &[u8], b: &[u8]) {
-    if first {
-        io::write_all(1, a);
-    } else {
-        io::write_all(1, b);
-    }
-}
 
 // ---- two walks of one image
 
-// What a walk said: 0 and its counts, or its number, its values and the visits.
-#[derive(Clone, Copy)]
-struct Said {
-    number: u32,
-    visits: u64,
-    first: u64,
-    second: u64,
+// What a walk is lent.
+#[derive(Drop)]
+pub(crate) struct Memory<'a> {
+    pub(crate) scratch: &'a mut [u64],
+    pub(crate) blocks: &'a mut [u32],
+    pub(crate) records: &'a mut [u8],
 }
 
-fn refusal_said(told: Told, visits: usize) -> Said {
-    let values = told.values;
-    match values {
-        Values::None => Said {
-            number: told.number,
-            visits: visits as u64,
-            first: 0,
-            second: 0,
-        },
-        Values::Two { expected, found } => Said {
-            number: told.number,
-            visits: visits as u64,
-            first: expected,
-            second: found,
-        },
-    }
+// Do both hold one value throughout?
+fn both(a: &[u64], b: &[u64], value: u64) -> bool {
+    throughout(a, value) && throughout(b, value)
 }
 
-fn figures(walked: Walked) -> Said {
-    match walked {
-        Walked::Read {
-            visits,
-            records,
-            bytes,
-        } => Said {
-            number: 0,
-            visits: visits as u64,
-            first: records as u64,
-            second: bytes as u64,
-        },
-        Walked::Refused { refusal, visits } => refusal_said(refusal.told(), visits),
-    }
-}
-
-fn same_said(a: Said, b: Said) -> bool {
-    if a.number != b.number {
-        return false;
-    }
-    if a.visits != b.visits {
-        return false;
-    }
-    if a.first != b.first {
-        return false;
-    }
-    a.second == b.second
-}
-
-fn same32(a: &[u32], b: &[u32]) -> bool {
-    if a.len() != b.len() {
-        return false;
-    }
-    let mut i = 0;
-    while i < a.len() {
-        if a[i] != b[i] {
-            return false;
-        }
-        i += 1;
-    }
-    true
-}
-
-// A walk leaves its scratch zero, or as it was lent.
-fn same_scratch(a: &[u64], b: &[u64]) -> bool {
-    if all64(a, 0) {
-        return all64(b, 0);
-    }
-    if all64(a, 0xEE) {
-        return all64(b, 0xEE);
-    }
-    false
-}
-
-// Do two walks leave the same?
-fn same_lists(
-    scratch: &[u64],
-    other_scratch: &[u64],
-    blocks: &[u32],
-    other_blocks: &[u32],
-    records: &[u8],
-    other_records: &[u8],
-) -> bool {
-    if !same_scratch(scratch, other_scratch) {
-        return false;
-    }
-    if !same32(blocks, other_blocks) {
-        return false;
-    }
-    same(records, other_records)
+// Do two walks leave the same? A walk leaves its scratch zero, or as it was lent.
+fn same_left(a: Left, b: Left) -> bool {
+    (both(a.scratch, b.scratch, 0) || both(a.scratch, b.scratch, 0xEE))
+        && a.blocks == b.blocks
+        && a.records == b.records
 }
 
 // ---- a row
 
-fn show_read(visits: usize, bytes: usize, scratch: &[u64], blocks: &[u32], records: &[u8]) {
-    if blocks.len() < visits {
+fn show_read(w: Walked, l: Left) {
+    if l.blocks.len() < w.visits || l.records.len() < w.bytes {
         return;
     }
-    if records.len() < bytes {
-        return;
-    }
-    either(all64(scratch, 0), b" scratch zero", b" scratch dirty");
-    show_tails(&blocks[visits..], &records[bytes..]);
+    either(
+        throughout(l.scratch, 0),
+        b" scratch zero",
+        b" scratch dirty",
+    );
+    show_tails(&l.blocks[w.visits..], &l.records[w.bytes..]);
 }
 
-fn show(walked: Walked, scratch: &[u64], blocks: &[u32], list: &[u8]) {
-    let none = [0u32; 0];
+fn show(walked: Result<Walked, StoppedWalk>, l: Left) {
     match walked {
-        Walked::Read {
-            visits,
-            records,
-            bytes,
-        } => {
-            number(b" read visits ", visits as u64);
-            number(b" records ", records as u64);
-            show_read(visits, bytes, scratch, blocks, list);
+        Ok(w) => {
+            number(b" read visits ", w.visits as u64);
+            number(b" records ", w.records as u64);
+            show_read(w, l);
         }
-        Walked::Refused { refusal, visits } => {
-            show_told(refusal.told());
-            number(b" visits ", visits as u64);
-            show_state(&none, scratch, blocks, list);
+        Err(s) => {
+            show_told(Told::from(s.refusal));
+            number(b" visits ", s.visits as u64);
+            l.show_state();
         }
     }
 }
 
 // The blocks that a finished walk gave.
-fn show_list(walked: Walked, blocks: &[u32]) {
-    let Walked::Read {
-        visits,
-        records: _,
-        bytes: _,
-    } = walked
-    else {
-        return;
-    };
-    if blocks.len() < visits {
-        return;
+fn show_list(walked: Result<Walked, StoppedWalk>, blocks: &[u32]) {
+    if let Ok(w) = walked
+        && w.visits <= blocks.len()
+    {
+        io::write_all(1, b"blocks");
+        show_blocks(&blocks[0..w.visits]);
+        newline();
     }
-    io::write_all(1, b"blocks");
-    show_blocks(&blocks[0..visits]);
-    newline();
 }
 
 // What is walked: a tree of a kind, from a root over so many levels.
@@ -197,44 +88,11 @@ pub(crate) struct Asked {
     pub(crate) levels: u32,
 }
 
-// The walk over a stack of 18 places: did it come to the same?
-fn show_other(
-    asked: Asked,
-    image: &[u8],
-    walked: Walked,
-    scratch: &[u64],
-    blocks: &[u32],
-    records: &[u8],
-    other_scratch: &mut [u64],
-    other_blocks: &mut [u32],
-    other_records: &mut [u8],
-) {
-    let mut stack = [0xEEu32; 18];
-    let g = asked.g;
-    let kind = asked.kind;
-    let other = walk(
-        g,
-        kind,
-        image,
-        AgBlock(asked.root),
-        asked.levels,
-        &mut stack,
-        other_scratch,
-        other_blocks,
-        other_records,
-    );
-    let answers = same_said(figures(walked), figures(other));
-    let lists = same_lists(
-        scratch,
-        other_scratch,
-        blocks,
-        other_blocks,
-        records,
-        other_records,
-    );
-    if answers {
+// Did the walk over a stack come to the same, and leave the same?
+fn show_other(same_answer: bool, same_memory: bool) {
+    if same_answer {
         either(
-            lists,
+            same_memory,
             b", over a stack the same",
             b", over a stack other lists",
         );
@@ -244,45 +102,47 @@ fn show_other(
     newline();
 }
 
-// Both walks, lent the same. A short block list is shown.
-pub(crate) fn walk_both(
-    name: &[u8],
-    asked: Asked,
-    image: &[u8],
-    scratch: &mut [u64],
-    blocks: &mut [u32],
-    records: &mut [u8],
-    other_scratch: &mut [u64],
-    other_blocks: &mut [u32],
-    other_records: &mut [u8],
-) {
-    let g = asked.g;
-    let kind = asked.kind;
-    let walked = walk_textbook(
+// Both walks, lent the same; that over a stack has 18 places of it. A short block list is shown.
+pub(crate) fn walk_both(name: &[u8], asked: Asked, image: &[u8], memory: Memory, other: Memory) {
+    let Asked {
         g,
         kind,
-        image,
-        AgBlock(asked.root),
-        asked.levels,
+        root,
+        levels,
+    } = asked;
+    let Memory {
         scratch,
         blocks,
         records,
+    } = memory;
+    let root = AgBlock(root);
+    let walked = walk_textbook(g, kind, image, root, levels, scratch, blocks, records);
+    let left = Left {
+        stack: &[],
+        scratch,
+        blocks,
+        records,
+    };
+    let Memory {
+        scratch,
+        blocks,
+        records,
+    } = other;
+    let mut stack = [0xEEu32; 18];
+    let again = walk(
+        g, kind, image, root, levels, &mut stack, scratch, blocks, records,
     );
+    let again_left = Left {
+        stack: &[],
+        scratch,
+        blocks,
+        records,
+    };
     io::write_all(1, name);
-    show(walked, scratch, blocks, records);
-    show_other(
-        asked,
-        image,
-        walked,
-        scratch,
-        blocks,
-        records,
-        other_scratch,
-        other_blocks,
-        other_records,
-    );
-    if blocks.len() < 20 {
-        show_list(walked, blocks);
+    show(walked, left);
+    show_other(walked == again, same_left(left, again_left));
+    if left.blocks.len() < 20 {
+        show_list(walked, left.blocks);
     }
 }
 
@@ -313,65 +173,41 @@ fn walk_row(name: &[u8], asked: Asked, image: &[u8], l: Lengths) {
     let mut other_scratch = [0xEEu64; 122];
     let mut other_blocks = [0xEEu32; 122];
     let mut other_records = [0xEEu8; 2400];
-    let s = l.scratch;
-    let b = l.blocks;
-    let r = l.records;
-    if 122 < s {
-        return;
-    }
-    if 122 < b {
-        return;
-    }
-    if 2400 < r {
+    if 122 < l.scratch || 122 < l.blocks || 2400 < l.records {
         return;
     }
     walk_both(
         name,
         asked,
         image,
-        &mut scratch[0..s],
-        &mut blocks[0..b],
-        &mut records[0..r],
-        &mut other_scratch[0..s],
-        &mut other_blocks[0..b],
-        &mut other_records[0..r],
+        Memory {
+            scratch: &mut scratch[0..l.scratch],
+            blocks: &mut blocks[0..l.blocks],
+            records: &mut records[0..l.records],
+        },
+        Memory {
+            scratch: &mut other_scratch[0..l.scratch],
+            blocks: &mut other_blocks[0..l.blocks],
+            records: &mut other_records[0..l.records],
+        },
     );
 }
 
 // ---- a tree of five blocks of 512 bytes
 
-fn put_pointer(b: &mut [u8], i: u32, block: u32) {
-    let at = 456 + (i as usize) * 4;
-    if b.len() < at + 4 {
-        return;
-    }
-    put_be32(b, at, block);
-}
-
-fn put_two(b: &mut [u8], left: u32, right: u32) {
-    put_pointer(b, 0, left);
-    put_pointer(b, 1, right);
-}
-
 // A node of the reverse map with two pointers.
 fn put_node(g: Geometry, image: &mut [u8], block: u32, level: u16, left: u32, right: u32) {
-    let a = (block as usize) * 512;
-    let e = a + 512;
-    if image.len() < e {
-        return;
+    if let Some(b) = part(image, 512, block) {
+        put_pointers(b, 456, &[left, right]);
+        fresh(g, TreeKind::Rmap, block, level, 2, b);
     }
-    put_two(&mut image[a..e], left, right);
-    fresh(g, TreeKind::Rmap, block, level, 2, &mut image[a..e]);
 }
 
 // A leaf with one record of zeros.
 fn put_leaf(g: Geometry, image: &mut [u8], block: u32) {
-    let a = (block as usize) * 512;
-    let e = a + 512;
-    if image.len() < e {
-        return;
+    if let Some(b) = part(image, 512, block) {
+        fresh(g, TreeKind::Rmap, block, 0, 1, b);
     }
-    fresh(g, TreeKind::Rmap, block, 0, 1, &mut image[a..e]);
 }
 
 // The root is block 4; its children are blocks 3 and 1, of which the first has the leaves 0 and 2, the second the leaf 2 twice.
@@ -406,37 +242,18 @@ fn tree_row(name: &[u8], g: Geometry, long: usize, root: u32, levels: u32, l: Le
     walk_row(name, rmap_from(g, root, levels), &image[0..long], l);
 }
 
-fn damage_in(image: &mut [u8], block: u32, at: usize, value: u8, again: bool) {
-    let a = (block as usize) * 512;
-    let e = a + 512;
-    if image.len() < e {
-        return;
-    }
-    damage(&mut image[a..e], at, value, again);
-}
-
 // A walk of it with one byte of a block damaged, the block's check put in again or not.
 fn damaged_row(name: &[u8], block: u32, at: usize, value: u8, again: bool) {
     let mut image = [0u8; 2560];
     plant(usual(), &mut image);
-    damage_in(&mut image, block, at, value, again);
+    damage_in(&mut image, 512, block, at, value, again);
     walk_row(name, rmap_from(usual(), 4, 3), &image, lent(7, 7, 96));
 }
 
 fn put_count(g: Geometry, image: &mut [u8], block: u32, level: u16, numrecs: u16) {
-    let a = (block as usize) * 1024;
-    let e = a + 1024;
-    if image.len() < e {
-        return;
+    if let Some(b) = part(image, 1024, block) {
+        fresh(g, TreeKind::Refcount, block, level, numrecs, b);
     }
-    fresh(
-        g,
-        TreeKind::Refcount,
-        block,
-        level,
-        numrecs,
-        &mut image[a..e],
-    );
 }
 
 // A walk of 122 visits over two blocks of the shared counts, of 1,024 bytes each: a full node, all of whose 121 pointers are to block 0, a leaf of one record.

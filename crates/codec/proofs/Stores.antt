@@ -1,5 +1,4 @@
--- More laws of `bytes_at` and `with_bytes`: each as a list, what lies up to and after a store, the steps of a loop that copies or clears, and a part that was
--- lent and written.
+-- More laws of `bytes_at` and `with_bytes`: each as a list, what lies up to and after a store, and a part that was lent and written.
 -- Assumes nothing.
 use mathlib.Core.Path.{◌≡◌, refl, sym, ap, ap₂, ◌∙◌}
 use mathlib.Core.List.{List, [], ◌∷◌, ◌++◌, append_assoc, append-nil}
@@ -8,7 +7,7 @@ use Prim.Native.Nat.{ℕ, ◌+◌, ◌-◌, ◌≤◌, ◌<◌}
 use native.Mathlib.Nat.{add-zero, le_refl}
 use native.Mathlib.Numerals.{add-one}
 use native.Mathlib.Omega.{arith}
-use lib.ListN.{length, get_or, set, take, drop, replicate, length-replicate, take-append-drop, drop_of_length-le, replicate-append-replicate}
+use lib.ListN.{length, get_or, set, take, drop, take-append-drop, drop_of_length-le}
 use lib.Seq.{length-take-le, take-suc, take_all}
 use Rattle.codec.specs.Bytes.{bytes_at, with_bytes}
 use Rattle.codec.proofs.Parts.{drop-after, length-with_bytes, with_bytes-one, with_bytes-add}
@@ -63,17 +62,6 @@ module _ (l s src : List ℕ) (at i : ℕ) where
 
   pub copy_done : i ≡ length src → s ≡ with_bytes l at (take i src) → s ≡ with_bytes l at src
   copy_done e q = q ∙ ap (with_bytes l at) (take_all i src (omega arith))
-
--- a loop that makes a list zero from the front
-module _ (l s : List ℕ) (i : ℕ) where
-  pub zeros-more : i < length l → s ≡ with_bytes l 0 (replicate i 0) → set s i 0 ≡ with_bytes l 0 (replicate (i + 1) 0)
-  zeros-more h q =
-      let n = length-replicate {A = ℕ} i 0 in
-      with_bytes-more l s (replicate i 0) 0 i 0 (omega (arith, n)) h q ∙ ap (with_bytes l 0) (replicate-append-replicate i 1 0)
-
-  pub zeros-done : i ≡ length l → s ≡ with_bytes l 0 (replicate i 0) → s ≡ replicate (length l) 0
-  zeros-done e q =
-      q ∙ ap (λ (k : ℕ). with_bytes l 0 (replicate k 0)) e ∙ with_bytes-all l (replicate (length l) 0) (length-replicate {A = ℕ} (length l) 0)
 
 -- a store right after a store is one store
 pub with_bytes-then : (l xs ys : List ℕ) (at k : ℕ) → k ≡ at + length xs → k ≤ length l → with_bytes (with_bytes l at xs) k ys ≡ with_bytes l at (xs ++ ys)

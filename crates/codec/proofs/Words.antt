@@ -15,7 +15,6 @@ use Rattle.codec.specs.Words.{entry, IsTables, step_byte, shares_of, step_word, 
 use Rattle.codec.proofs.Xor.{xor_assoc}
 use Rattle.codec.proofs.Division.{reduced-xor, divide_bits-high, crc_byte-table}
 use Rattle.codec.proofs.Numbers.{be_of-lt, be_bytes-be_of, le_of-append, le_of-le_bytes-lt, length-le_bytes}
-use Rattle.codec.proofs.Parts.{length-bytes_at}
 use Rattle.codec.proofs.Overwrites.{IsBytes-reverse, IsBytes-le_bytes, IsBytes-bytes_at}
 use Rattle.codec.proofs.CrcRange.{crc_bytes-lt}
 
@@ -170,12 +169,6 @@ word-shares t r word hr hw =
     let x : ℕ = bit_xor r word in
     four-shares t (x % 256) (x / 256 % 256) (x / 0x1_0000 % 256) (x / 0x100_0000)
     ∙ ap (shares_of t) (sym (four_bytes x (xor_lt 32 r word hr hw)))
-
--- a word of a list is read from its four bytes
-pub word_at : (l : List ℕ) (at : ℕ) → IsBytes l → at + 4 ≤ length l → le_bytes 4 (le_of (bytes_at l at 4)) ≡ bytes_at l at 4
-word_at l at h fits =
-    let w : List ℕ = bytes_at l at 4 in
-    subst (λ (n : ℕ). le_bytes n (le_of w) ≡ w) (length-bytes_at l at 4 fits) (le_bytes-le_of w (IsBytes-bytes_at l at 4 h))
 
 singly : (t : List ℕ) → IsTables t → (r : ℕ) (l : List ℕ) → IsBytes l → crc_singly t r l ≡ crc_bytes r l
 unfolding crc_singly crc_bytes

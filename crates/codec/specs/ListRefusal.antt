@@ -1,11 +1,9 @@
 -- The number (docs/QUESTIONS.md) and the values of each refusal of a list, and what a check of a list comes to.
 -- Assumes nothing.
-use Rattle.std.specs.Prelude.{ℕ}
+use Rattle.std.specs.Prelude.{ℕ, Result, Ok, Err}
 use Rattle.codec.specs.Question.{Values, none, Outcome, done, refused}
 use Rattle.codec.specs.declared.check.ListRefusal.{ListRefusal}
 use Rattle.codec.specs.declared.check.ListRefusal.TheVariants.{Length, RmapOrder, ExtentOrder}
-use Rattle.codec.specs.declared.check.ListChecked.{ListChecked}
-use Rattle.codec.specs.declared.check.ListChecked.TheVariants.{Accepted, Refused}
 
 abbrev pub list_number : ListRefusal → ℕ
 list_number Length = 19
@@ -16,6 +14,6 @@ list_number ExtentOrder = 21
 abbrev pub list_values : ListRefusal → Values
 list_values r = none
 
-abbrev pub list_outcome : ListChecked → Outcome ℕ
-list_outcome (Accepted n) = done n
-list_outcome (Refused r) = refused (list_number r) (list_values r)
+abbrev pub list_outcome : Result ℕ ListRefusal → Outcome ℕ
+list_outcome (Ok n) = done n
+list_outcome (Err r) = refused (list_number r) (list_values r)

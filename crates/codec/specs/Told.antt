@@ -1,14 +1,13 @@
 -- A refusal as code tells it: by its number and its values.
 -- Assumes nothing.
-use Rattle.std.specs.Prelude.{ℕ, ◌≡◌}
+use Rattle.std.specs.Prelude.{ℕ, ◌≡◌, Option, Some, None}
 use Rattle.codec.specs.Question.{Values, none, two}
-use Rattle.codec.specs.declared.refusal.Values.{Values as Coded}
-use Rattle.codec.specs.declared.refusal.Values.TheVariants.{None, Two}
+use Rattle.codec.specs.declared.refusal.Mismatch.{Mismatch}
 use Rattle.codec.specs.declared.refusal.Told.{Told}
 
-abbrev pub values_of : Coded → Values
+abbrev pub values_of : Option Mismatch → Values
 values_of None = none
-values_of (Two expected found) = two expected found
+values_of (Some m) = two m.expected m.found
 
 -- t tells the number n and the values v
 abbrev pub Tells : Told → ℕ → Values → Type 0

@@ -46,6 +46,6 @@ pub record EveryInput (t : List ℕ) : Type 0 where
   pub words : (r : ℕ) (l : List ℕ) → r < 2 ^ 32 → IsBytes l → crc_words t r l ≡ crc_bytes r l
   pub same : (r : ℕ) (l : List ℕ) → r < 2 ^ 32 → IsBytes l → crc_words t r l ≡ crc_singly t r l
 
--- from any tables that keep the rule, as those do that `codec::crc::tables` returns
+-- from any tables that keep the rule, as `TABLES` of `codec::crc` does (proofs/CrcTables.antt)
 abbrev pub WordsAreSingles : Type 0
 WordsAreSingles = (t : List ℕ) → IsTables t → EveryInput t

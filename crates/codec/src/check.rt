@@ -8,7 +8,7 @@ use crate::refusal::Told;
 // The largest end of an extent, one more than the largest block number of a group.
 pub const END_LIMIT: u64 = 0x8000_0000;
 
-#[derive(Clone, Copy)]
+#[derive(Clone, Copy, Debug, PartialEq, Eq)]
 pub enum ListRefusal {
     // the bytes are not whole records
     Length,
@@ -18,19 +18,12 @@ pub enum ListRefusal {
     ExtentOrder,
 }
 
-#[derive(Clone, Copy)]
-pub enum ListChecked {
-    // how many records there are
-    Accepted(usize),
-    Refused(ListRefusal),
-}
+// No question on a list has values.
+impl From<ListRefusal> for Told {
+    ghost from_gives = { λ r t. Tells t (list_number r) (list_values r) };
 
-impl ListRefusal {
-    // No question on a list has values.
-    pub fn told(self) -> Told
-        ensures { Tells result (list_number self) (list_values self) }
-    {
-        match self {
+    fn from(r: ListRefusal) -> Told {
+        match r {
             ListRefusal::Length => Told::plain(19),
             ListRefusal::RmapOrder => Told::plain(20),
             ListRefusal::ExtentOrder => Told::plain(21),

@@ -1,13 +1,12 @@
 // CRC32C (RFC 3720, 12.1): the check of every XFS block of version 5.
-ghost use Rattle.std.specs.Prelude.{◌≡◌, ◌+◌, ◌*◌, ◌/◌, ◌≤◌, length, take, [], ◌∷◌};
-ghost use Rattle.codec.specs.Bytes.{le_bytes, with_bytes};
-ghost use Rattle.codec.specs.Crc.{crc_byte, crc_bytes, crc32c_of};
-ghost use Rattle.codec.specs.Words.{IsTables};
+#![tactic(auto, unfolding(crate::specs::Crc::crc32c_of))]
 
-use crate::endian::le32;
+ghost use Rattle.std.specs.Prelude.{◌≡◌, ◌+◌, ◌≤◌, length, [], ◌∷◌};
+ghost use Rattle.codec.specs.Bytes.{with_bytes};
+ghost use Rattle.codec.specs.Crc.{crc_byte, crc_bytes, crc32c_of};
 
 // Four tables, one after another: the remainder of each byte, then of each byte with one, two and three zero bytes behind it.
-const TABLES: [u32; 1024] = [
+static TABLES: [u32; 1024] = [
     0x00000000, 0xF26B8303, 0xE13B70F7, 0x1350F3F4, 0xC79A971F, 0x35F1141C, 0x26A1E7E8, 0xD4CA64EB,
     0x8AD958CF, 0x78B2DBCC, 0x6BE22838, 0x9989AB3B, 0x4D43CFD0, 0xBF284CD3, 0xAC78BF27, 0x5E133C24,
     0x105EC76F, 0xE235446C, 0xF165B798, 0x030E349B, 0xD7C45070, 0x25AFD373, 0x36FF2087, 0xC494A384,
@@ -138,90 +137,62 @@ const TABLES: [u32; 1024] = [
     0x31035088, 0xEC46FA30, 0x8E647309, 0x5321D9B1, 0x4A21617B, 0x9764CBC3, 0xF54642FA, 0x2803E842,
 ];
 
-// The tables, for a caller to keep over a loop: an index of the constant itself would lay all of it out anew at each step.
-fn tables() -> [u32; 1024]
-    ensures { IsTables result }
-{
-    TABLES
-}
-
 // The register after one byte more.
-fn crc_byte(entries: &[u32; 1024], crc: u32, b: u8) -> u32
-    requires { IsTables entries.now }
+fn crc_byte(crc: u32, b: u8) -> u32
     ensures { result ≡ crc_byte crc b }
 {
     let low = (crc % 256) as u8;
     let n = (low ^ b) as usize;
-    entries[n] ^ (crc / 256)
+    TABLES[n] ^ (crc / 256)
 }
 
-// The register after the four bytes of a word, the lowest first.
-fn crc_word(entries: &[u32; 1024], crc: u32, word: u32) -> u32
-    requires { IsTables entries.now }
-    ensures { result ≡ crc_bytes crc (le_bytes 4 word) }
+// The register after the four bytes of a word.
+fn crc_word(crc: u32, word: &[u8; 4]) -> u32
+    ensures { result ≡ crc_bytes crc word.now }
 {
-    let x = crc ^ word;
+    let x = crc ^ u32::from_le_bytes(*word);
     let first = (x % 256) as usize;
     let second = (x / 256 % 256) as usize;
     let third = (x / 0x1_0000 % 256) as usize;
     let fourth = (x / 0x100_0000) as usize;
-    (entries[768 + first] ^ entries[512 + second]) ^ (entries[256 + third] ^ entries[fourth])
+    (TABLES[768 + first] ^ TABLES[512 + second]) ^ (TABLES[256 + third] ^ TABLES[fourth])
 }
 
 // The register after the bytes of `s`, one at a step.
-fn crc_singly(entries: &[u32; 1024], crc: u32, s: &[u8]) -> u32
-    requires { IsTables entries.now }
+fn crc_singly(crc: u32, s: &[u8]) -> u32
     ensures { result ≡ crc_bytes crc s.now }
 {
     let mut r = crc;
-    let mut i = 0;
-    while i < s.len() {
-        r = crc_byte(entries, r, s[i]);
-        i += 1;
+    for b in s {
+        r = crc_byte(r, *b);
     }
     r
 }
 
-// The register after the whole words of `s`, a word at a step.
-fn crc_words(entries: &[u32; 1024], crc: u32, s: &[u8]) -> u32
-    requires { IsTables entries.now }
-    ensures { result ≡ crc_bytes crc (take (length s.now / 4 * 4) s.now) }
-{
-    let n = s.len() / 4;
-    let mut r = crc;
-    let mut i = 0;
-    while i < n {
-        let word = le32(s, i * 4);
-        r = crc_word(entries, r, word);
-        i += 1;
-    }
-    r
-}
-
-// The register after the bytes of `s`: the whole words, then the last bytes singly.
-fn crc_bytes(entries: &[u32; 1024], crc: u32, s: &[u8]) -> u32
-    requires { IsTables entries.now }
+// The register after the bytes of `s`: the whole words, a word at a step, then the last bytes singly.
+fn crc_bytes(crc: u32, s: &[u8]) -> u32
     ensures { result ≡ crc_bytes crc s.now }
 {
-    let r = crc_words(entries, crc, s);
-    let from = s.len() / 4 * 4;
-    crc_singly(entries, r, &s[from..])
+    let (words, last) = s.as_chunks();
+    let mut r = crc;
+    for word in words {
+        r = crc_word(r, word);
+    }
+    crc_singly(r, last)
 }
 
 // The check of `s`, by words.
 pub fn crc32c(s: &[u8]) -> u32
     ensures { result ≡ crc32c_of s.now }
 {
-    let entries = tables();
-    crc_bytes(&entries, 0xFFFF_FFFF, s) ^ 0xFFFF_FFFF
+    crc_bytes(0xFFFF_FFFF, s) ^ 0xFFFF_FFFF
 }
 
 // The check of `s`, by single bytes: what the form by words is measured against.
 pub fn crc32c_singly(s: &[u8]) -> u32
     ensures { result ≡ crc32c_of s.now }
 {
-    let entries = tables();
-    crc_singly(&entries, 0xFFFF_FFFF, s) ^ 0xFFFF_FFFF
+    crc_singly(0xFFFF_FFFF, s) ^ 0xFFFF_FFFF
 }
 
 // The check of `buf` with the four bytes at `crc_off` taken as zeros: the check of a block, whose own field is left out.
@@ -229,10 +200,8 @@ pub fn crc32c_with_zeroed_crc(buf: &[u8], crc_off: usize) -> u32
     requires { crc_off + 4 ≤ length buf.now }
     ensures { result ≡ crc32c_of (with_bytes buf.now crc_off (0 ∷ 0 ∷ 0 ∷ 0 ∷ [])) }
 {
-    let entries = tables();
-    let zeros = [0u8; 4];
-    let before = crc_bytes(&entries, 0xFFFF_FFFF, &buf[..crc_off]);
-    let through = crc_bytes(&entries, before, &zeros);
+    let before = crc_bytes(0xFFFF_FFFF, &buf[..crc_off]);
+    let through = crc_bytes(before, &[0; 4]);
     let after = crc_off + 4;
-    crc_bytes(&entries, through, &buf[after..]) ^ 0xFFFF_FFFF
+    crc_bytes(through, &buf[after..]) ^ 0xFFFF_FFFF
 }

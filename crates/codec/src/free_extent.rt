@@ -2,10 +2,12 @@
 ghost use Rattle.std.specs.Prelude.{◌≡◌, ◌+◌, ◌≤◌, length};
 ghost use Rattle.codec.specs.Bytes.{bytes_at, with_bytes};
 ghost use Rattle.codec.specs.Records.{free_extents};
+ghost use Rattle.std.proofs.Common.{rules};
 
 use crate::endian::{be32, put_be32};
+use crate::list::Record;
 
-#[derive(Clone, Copy)]
+#[derive(Clone, Copy, Debug, PartialEq, Eq)]
 pub struct FreeExtent {
     pub startblock: u32,
     pub blockcount: u32,
@@ -32,4 +34,24 @@ pub fn encode(buf: &mut [u8], at: usize, e: FreeExtent)
 {
     put_be32(buf, at, e.startblock);
     put_be32(buf, at + 4, e.blockcount);
+}
+
+impl Record for FreeExtent {
+    ghost kind = { free_extents };
+
+    const LEN: usize = EXTENT_LEN;
+
+    ghost LEN = { free_extents.size };
+
+    fn decode(buf: &[u8], at: usize) -> FreeExtent {
+        decode(buf, at)
+    }
+
+    fn encode(buf: &mut [u8], at: usize, e: FreeExtent) {
+        encode(buf, at, e)
+    }
+
+    ghost len_is = { Prim.search rules };
+
+    ghost has_bytes = { Prim.search rules };
 }

@@ -7,6 +7,7 @@ pub mod copy;
 pub mod crc;
 pub mod endian;
 pub mod free_extent;
+pub mod list;
 pub mod refcount;
 pub mod refusal;
 pub mod rmap;

@@ -1,14 +1,18 @@
 // A record of the shared counts: an extent, and how many files hold it.
+#![tactic(auto, unfolding(crate::specs::Refcounts::staging, crate::specs::Refcounts::good, crate::specs::Refcounts::follows, crate::specs::Refcounts::check_order))]
+
 ghost use Rattle.std.specs.Prelude.{◌≡◌, ◌+◌, ◌≤◌, length};
 ghost use Rattle.codec.specs.Bytes.{bytes_at, with_bytes};
-ghost use Rattle.codec.specs.Records.{records_of, refcounts};
-ghost use Rattle.codec.specs.Refcounts.{staging, block, end, good, follows, accepted, check_order};
+ghost use Rattle.codec.specs.Records.{refcounts};
+ghost use Rattle.codec.specs.Refcounts.{staging, block, end, good, follows, least, check_order};
 ghost use Rattle.codec.specs.ListRefusal.{list_outcome};
+ghost use Rattle.std.proofs.Common.{rules};
 
-use crate::check::{END_LIMIT, ListChecked, ListRefusal};
+use crate::check::{END_LIMIT, ListRefusal};
 use crate::endian::{be32, put_be32};
+use crate::list::{self, Order, Record};
 
-#[derive(Clone, Copy)]
+#[derive(Clone, Copy, Debug, PartialEq, Eq)]
 pub struct Refcount {
     // As stored: bit 31 marks a staging extent of a copy on write, and the rest is a block of the group.
     pub startblock: u32,
@@ -74,69 +78,80 @@ pub fn encode(buf: &mut [u8], at: usize, r: Refcount)
 pub fn good(r: Refcount) -> bool
     ensures { result ≡ good r }
 {
-    if END_LIMIT < r.end() {
-        return false;
-    }
-    if r.blockcount == 0 {
+    if END_LIMIT < r.end() || r.blockcount == 0 {
         return false;
     }
     if r.is_staging() {
-        return r.refcount == 1;
+        r.refcount == 1
+    } else {
+        2 <= r.refcount
     }
-    2 <= r.refcount
 }
 
 // May r stand right after q?
 pub fn follows(q: Refcount, r: Refcount) -> bool
     ensures { result ≡ follows q r }
 {
-    let apart = q.end() <= r.block() as u64;
-    if q.is_staging() {
-        if r.is_staging() {
-            return apart;
-        }
-        return false;
+    if q.is_staging() == r.is_staging() {
+        q.end() <= r.block() as u64
+    } else {
+        r.is_staging()
     }
-    if r.is_staging() {
-        return true;
-    }
-    apart
 }
 
-// Are the records of the list good and in order?
-fn accepted(list: &[u8]) -> bool
-    ensures { result ≡ accepted (records_of refcounts list.now) }
-{
-    let n = list.len() / REFCOUNT_LEN;
-    let mut prev = Refcount {
-        startblock: 0,
-        blockcount: 0,
-        refcount: 0,
-    };
-    let mut i = 0;
-    while i < n {
-        let r = decode(list, i * REFCOUNT_LEN);
-        if !good(r) {
-            return false;
-        }
-        if !follows(prev, r) {
-            return false;
-        }
-        prev = r;
-        i += 1;
+impl Record for Refcount {
+    ghost kind = { refcounts };
+
+    const LEN: usize = REFCOUNT_LEN;
+
+    ghost LEN = { refcounts.size };
+
+    fn decode(buf: &[u8], at: usize) -> Refcount {
+        decode(buf, at)
     }
-    true
+
+    fn encode(buf: &mut [u8], at: usize, r: Refcount) {
+        encode(buf, at, r)
+    }
+
+    ghost len_is = { Prim.search rules };
+
+    ghost has_bytes = { Prim.search rules };
+}
+
+// Shared before staging, none starting before its predecessor of the same kind ends.
+#[derive(Clone, Copy)]
+struct ByKind;
+
+impl Order for ByKind {
+    type Item = Refcount;
+
+    ghost is_good = { λ _. good };
+
+    ghost may_follow = { λ _. follows };
+
+    ghost least = { least };
+
+    fn is_good(&self, r: Refcount) -> bool {
+        good(r)
+    }
+
+    fn may_follow(&self, q: Refcount, r: Refcount) -> bool {
+        follows(q, r)
+    }
+
+    fn least(&self) -> Refcount {
+        Refcount {
+            startblock: 0,
+            blockcount: 0,
+            refcount: 0,
+        }
+    }
 }
 
 // Questions 19 and 21 on a list of shared counts.
-pub fn check_order(list: &[u8]) -> ListChecked
+pub fn check_order(list: &[u8]) -> Result<usize, ListRefusal>
     ensures { list_outcome result ≡ check_order list.now }
 {
-    if list.len() % REFCOUNT_LEN != 0 {
-        return ListChecked::Refused(ListRefusal::Length);
-    }
-    if !accepted(list) {
-        return ListChecked::Refused(ListRefusal::ExtentOrder);
-    }
-    ListChecked::Accepted(list.len() / REFCOUNT_LEN)
+    list::check_order(&ByKind, ListRefusal::ExtentOrder, list)
 }

@@ -2,18 +2,18 @@
 ghost use Rattle.codec.specs.Question.{none, two};
 ghost use Rattle.codec.specs.Told.{Tells};
 
-// The values of a question that failed: none, or the number expected and the one found.
-#[derive(Clone, Copy)]
-pub enum Values {
-    None,
-    Two { expected: u64, found: u64 },
+// The number that a question expected, and the one that it found.
+#[derive(Clone, Copy, Debug, PartialEq, Eq)]
+pub struct Mismatch {
+    pub expected: u64,
+    pub found: u64,
 }
 
-// The number of docs/QUESTIONS.md and the values of a refusal.
-#[derive(Clone, Copy)]
+// The number of docs/QUESTIONS.md and the values of a refusal: none where the question that failed has no two numbers.
+#[derive(Clone, Copy, Debug, PartialEq, Eq)]
 pub struct Told {
     pub number: u32,
-    pub values: Values,
+    pub values: Option<Mismatch>,
 }
 
 impl Told {
@@ -23,7 +23,7 @@ impl Told {
     {
         Told {
             number,
-            values: Values::None,
+            values: None,
         }
     }
 
@@ -33,7 +33,7 @@ impl Told {
     {
         Told {
             number,
-            values: Values::Two { expected, found },
+            values: Some(Mismatch { expected, found }),
         }
     }
 }

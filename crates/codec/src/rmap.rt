@@ -1,14 +1,18 @@
 // A record of the reverse map: an extent, and what owns it.
+#![tactic(auto, using(crate::proofs::RmapTests::exempt_is), unfolding(crate::specs::Rmaps::reserved, crate::specs::Rmaps::good, crate::specs::Rmaps::key_offset, crate::specs::Rmaps::before, crate::specs::Rmaps::follows, crate::specs::Rmaps::check_order))]
+
 ghost use Rattle.std.specs.Prelude.{◌≡◌, ◌+◌, ◌≤◌, length};
 ghost use Rattle.codec.specs.Bytes.{bytes_at, with_bytes};
-ghost use Rattle.codec.specs.Records.{records_of, rmaps};
-ghost use Rattle.codec.specs.Rmaps.{end, file_offset, flags, reserved, exempt, key_offset, before, good, accepted, check_order};
+ghost use Rattle.codec.specs.Records.{rmaps};
+ghost use Rattle.codec.specs.Rmaps.{end, file_offset, flags, reserved, exempt, key_offset, before, good, follows, least, check_order};
 ghost use Rattle.codec.specs.ListRefusal.{list_outcome};
+ghost use Rattle.std.proofs.Common.{rules};
 
-use crate::check::{END_LIMIT, ListChecked, ListRefusal};
+use crate::check::{END_LIMIT, ListRefusal};
 use crate::endian::{be32, be64, put_be32, put_be64};
+use crate::list::{self, Order, Record};
 
-#[derive(Clone, Copy)]
+#[derive(Clone, Copy, Debug, PartialEq, Eq)]
 pub struct Rmap {
     // In the group, as in every record of a group's tree.
     pub startblock: u32,
@@ -91,26 +95,16 @@ pub fn encode(buf: &mut [u8], at: usize, r: Rmap)
 pub fn exempt(r: Rmap) -> bool
     ensures { result ≡ exempt r }
 {
-    if r.is_reserved() {
-        return true;
-    }
-    r.offset / OFF_BMBT_BLOCK % 2 == 1
+    r.is_reserved() || r.offset / OFF_BMBT_BLOCK % 2 == 1
 }
 
 // Is the extent good by itself? Question 22 of an extent, and a part of 20 of a list.
 pub fn good(r: Rmap) -> bool
     ensures { result ≡ good r }
 {
-    if r.blockcount == 0 {
-        return false;
-    }
-    if END_LIMIT < r.end() {
-        return false;
-    }
-    if r.file_offset() + r.blockcount as u64 <= OFF_LIMIT {
-        return true;
-    }
-    exempt(r)
+    0 < r.blockcount
+        && r.end() <= END_LIMIT
+        && (r.file_offset() + r.blockcount as u64 <= OFF_LIMIT || exempt(r))
 }
 
 // The offset without bit 61.
@@ -120,54 +114,67 @@ fn key_offset(o: u64) -> u64
     o - OFF_UNWRITTEN * (o / OFF_UNWRITTEN % 2)
 }
 
-// Does r come before s in the order of the list?
+// Does r come before s in the order of the list? No `Ord`: it is not by bit 61 nor by the count, so two records neither of which comes first may differ.
 pub fn comes_before(r: Rmap, s: Rmap) -> bool
     ensures { result ≡ before r s }
 {
-    if r.startblock != s.startblock {
-        return r.startblock < s.startblock;
-    }
-    if r.owner != s.owner {
-        return r.owner < s.owner;
-    }
-    key_offset(r.offset) < key_offset(s.offset)
+    (r.startblock, r.owner, key_offset(r.offset)) < (s.startblock, s.owner, key_offset(s.offset))
 }
 
-// Are the records of the list good and in order?
-fn accepted(list: &[u8]) -> bool
-    ensures { result ≡ accepted (records_of rmaps list.now) }
-{
-    let n = list.len() / RMAP_LEN;
-    let mut prev = Rmap {
-        startblock: 0,
-        blockcount: 0,
-        owner: 0,
-        offset: 0,
-    };
-    let mut i = 0;
-    while i < n {
-        let r = decode(list, i * RMAP_LEN);
-        if !good(r) {
-            return false;
-        }
-        if comes_before(r, prev) {
-            return false;
-        }
-        prev = r;
-        i += 1;
+impl Record for Rmap {
+    ghost kind = { rmaps };
+
+    const LEN: usize = RMAP_LEN;
+
+    ghost LEN = { rmaps.size };
+
+    fn decode(buf: &[u8], at: usize) -> Rmap {
+        decode(buf, at)
     }
-    true
+
+    fn encode(buf: &mut [u8], at: usize, r: Rmap) {
+        encode(buf, at, r)
+    }
+
+    ghost len_is = { Prim.search rules };
+
+    ghost has_bytes = { Prim.search rules };
+}
+
+// By start, owner as unsigned, offset without bit 61; equals may stand side by side.
+#[derive(Clone, Copy)]
+struct ByKey;
+
+impl Order for ByKey {
+    type Item = Rmap;
+
+    ghost is_good = { λ _. good };
+
+    ghost may_follow = { λ _. follows };
+
+    ghost least = { least };
+
+    fn is_good(&self, r: Rmap) -> bool {
+        good(r)
+    }
+
+    fn may_follow(&self, q: Rmap, r: Rmap) -> bool {
+        !comes_before(r, q)
+    }
+
+    fn least(&self) -> Rmap {
+        Rmap {
+            startblock: 0,
+            blockcount: 0,
+            owner: 0,
+            offset: 0,
+        }
+    }
 }
 
 // Questions 19 and 20 on a reverse map.
-pub fn check_order(list: &[u8]) -> ListChecked
+pub fn check_order(list: &[u8]) -> Result<usize, ListRefusal>
     ensures { list_outcome result ≡ check_order list.now }
 {
-    if list.len() % RMAP_LEN != 0 {
-        return ListChecked::Refused(ListRefusal::Length);
-    }
-    if !accepted(list) {
-        return ListChecked::Refused(ListRefusal::RmapOrder);
-    }
-    ListChecked::Accepted(list.len() / RMAP_LEN)
+    list::check_order(&ByKey, ListRefusal::RmapOrder, list)
 }

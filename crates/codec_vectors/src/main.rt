@@ -2,23 +2,12 @@
 // record of each kind written among other bytes and read back, and lists that questions 19 to 21 accept and refuse.
 #![tactic(auto)]
 
-use codec::check::ListChecked;
+use codec::check::ListRefusal;
 use codec::free_extent::FreeExtent;
 use codec::refcount::Refcount;
 use codec::rmap::Rmap;
 use codec::{crc, endian, free_extent, refcount, rmap};
-use show::lines::{show_told, words};
-
-// A name, and a number in decimal.
-fn number(name: &[u8], n: u64) {
-    io::write_all(1, name);
-    io::print_decimal(1, n);
-}
-
-// The end of a line.
-fn newline() {
-    io::write_all(1, b"\n");
-}
+use show::lines::{newline, show_outcome, words};
 
 fn line(name: &[u8], check: u32) {
     io::write_all(1, name);
@@ -27,14 +16,9 @@ fn line(name: &[u8], check: u32) {
     newline();
 }
 
-fn answer(name: &[u8], r: ListChecked) {
+fn answer(name: &[u8], r: Result<usize, ListRefusal>) {
     io::write_all(1, name);
-    match r {
-        ListChecked::Accepted(n) => number(b" accepted ", n as u64),
-        ListChecked::Refused(e) => {
-            show_told(e.told());
-        }
-    }
+    show_outcome(b" accepted ", r);
     newline();
 }
 

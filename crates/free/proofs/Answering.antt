@@ -11,9 +11,7 @@ use borrow.Author.Tests.{eqb-true}
 use Rattle.codec.specs.Question.{Values, Outcome, done, refused, Question, answer}
 use Rattle.codec.specs.Records.{records_of, free_extents}
 use Rattle.codec.specs.Accepted.{whole}
-use Rattle.codec.specs.ListRefusal.{list_number, list_values, list_outcome}
-use Rattle.codec.specs.declared.check.ListChecked.{ListChecked}
-use Rattle.codec.specs.declared.check.ListChecked.TheVariants as checked
+use Rattle.codec.specs.ListRefusal.{list_number, list_values}
 use Rattle.codec.specs.declared.check.ListRefusal.{ListRefusal}
 use Rattle.codec.specs.declared.free_extent.FreeExtent.{FreeExtent}
 use Rattle.codec.proofs.Meaning.{AllHold, done-means}
@@ -47,14 +45,15 @@ refuses {A} {B} (q ∷ qs) x o n v e = go q.holds (refuses qs x o n v) e
 
 -- ---- 19 and 21 on one list
 
-module _ (order : Order) (b : List ℕ) (k : ListChecked) (h : list_outcome k ≡ check_order order b) where
-  list-refused : (r : ListRefusal) → k ≡ checked.Refused r → {A : Type 0} (o : Outcome A) → answer (list_questions order b) o ≡ refused (list_number r) (list_values r)
+module _ (order : Order) (b : List ℕ) where
+  list-refused : (r : ListRefusal) → refused (list_number r) (list_values r) ≡ check_order order b
+      → {A : Type 0} (o : Outcome A) → answer (list_questions order b) o ≡ refused (list_number r) (list_values r)
   unfolding check_order
-  list-refused r e o = refuses (list_questions order b) (length b / 8) o (list_number r) (list_values r) (sym (rw e at h))
+  list-refused r h o = refuses (list_questions order b) (length b / 8) o (list_number r) (list_values r) (sym h)
 
-  pub list_held : (n : ℕ) → k ≡ checked.Accepted n → AllHold (list_questions order b)
+  pub list_held : (n : ℕ) → done n ≡ check_order order b → AllHold (list_questions order b)
   unfolding check_order
-  list_held n e = (done-means (list_questions order b) (length b / 8) n (sym (rw e at h))).0
+  list_held n h = (done-means (list_questions order b) (length b / 8) n (sym h)).0
 
 pub list-accepted : (order : Order) (b : List ℕ) → AllHold (list_questions order b) → accepted order (records_of free_extents b) ≡ true
 list-accepted order b h = h.1.0
@@ -76,12 +75,12 @@ module _ (b s : List ℕ) where
   unfolding same_outcome
   in-turn = answer-append (list_questions ByBlock b) (list_questions BySize s) (done (same_extents l m))
 
-  pub first-refused : (k : ListChecked) (r : ListRefusal) → list_outcome k ≡ check_order ByBlock b → k ≡ checked.Refused r → refused (list_number r) (list_values r) ≡ same_outcome b s
-  first-refused k r h e = sym (in-turn ∙ list-refused ByBlock b k h r e _)
+  pub first-refused : (r : ListRefusal) → refused (list_number r) (list_values r) ≡ check_order ByBlock b → refused (list_number r) (list_values r) ≡ same_outcome b s
+  first-refused r h = sym (in-turn ∙ list-refused ByBlock b r h _)
 
   module _ (p : AllHold (list_questions ByBlock b)) where
-    pub second-refused : (k : ListChecked) (r : ListRefusal) → list_outcome k ≡ check_order BySize s → k ≡ checked.Refused r → refused (list_number r) (list_values r) ≡ same_outcome b s
-    second-refused k r h e = sym (in-turn ∙ held (list_questions ByBlock b) _ p ∙ list-refused BySize s k h r e _)
+    pub second-refused : (r : ListRefusal) → refused (list_number r) (list_values r) ≡ check_order BySize s → refused (list_number r) (list_values r) ≡ same_outcome b s
+    second-refused r h = sym (in-turn ∙ held (list_questions ByBlock b) _ p ∙ list-refused BySize s r h _)
 
     module _ (q : AllHold (list_questions BySize s)) where
       said : (t : Bool) → t ≡ same_extents l m → done t ≡ same_outcome b s

@@ -4,26 +4,16 @@ use Prim.Native.Nat.{ℕ, ◌<◌}
 use native.Mathlib.Omega.{arith}
 use mathlib.Core.Path.{◌≡◌, refl, sym, ap₂, ◌∙◌}
 use mathlib.Core.Bool.{Bool, true, false}
-use lib.Dec.{ltb, leb, eqb}
+use lib.Dec.{ltb, eqb}
 use borrow.Author.Tests.{lt-ltb, le-ltb, eq-eqb, ne_eqb}
-use Rattle.codec.specs.Accepted.{end_limit}
 use Rattle.codec.specs.declared.free_extent.FreeExtent.{FreeExtent}
 use Rattle.free.specs.declared.order.Order.{Order}
 use Rattle.free.specs.declared.order.Order.TheVariants.{ByBlock, BySize}
-use Rattle.free.specs.Free.{end, good, smaller, follows}
+use Rattle.free.specs.Free.{good, smaller, follows}
 use Rattle.free.specs.Same.{alike}
 use Rattle.free.proofs.Cases.{split, tests, conj, clash}
 
 -- ---- the code's tests
-
-module _ (e : FreeExtent) where
-  pub good-zero : e.blockcount ≡ 0 → false ≡ good e
-  unfolding good
-  good-zero h = rw h refl
-
-  pub good-some : (e.blockcount ≡ 0 → ⊥) → leb (end e) end_limit ≡ good e
-  unfolding good
-  good-some h = simp (lt-ltb 0 e.blockcount (omega arith))
 
 module _ (q e : FreeExtent) where
   pub smaller-count : (q.blockcount ≡ e.blockcount → ⊥) → ltb q.blockcount e.blockcount ≡ smaller q e
@@ -33,14 +23,6 @@ module _ (q e : FreeExtent) where
   pub smaller-start : q.blockcount ≡ e.blockcount → ltb q.startblock e.startblock ≡ smaller q e
   unfolding smaller
   smaller-start h = rw (eq-eqb q.blockcount e.blockcount h) refl
-
-  pub follows-block : (o : Order) → o ≡ ByBlock → leb (end q) e.startblock ≡ follows o q e
-  unfolding follows
-  follows-block o h = rw h refl
-
-  pub follows-size : (o : Order) → o ≡ BySize → smaller q e ≡ follows o q e
-  unfolding follows
-  follows-size o h = rw h refl
 
 -- ---- a count and a start, and then two that they come before
 

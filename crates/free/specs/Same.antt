@@ -1,13 +1,12 @@
 -- Whether two lists hold the same extents, equally often: the questions on both lists, then yes or no.
 -- Assumes nothing.
-use Rattle.std.specs.Prelude.{ℕ, ◌+◌, Bool, true, cond, ◌&&◌, List, [], ◌∷◌, ◌++◌, eqb}
+use Rattle.std.specs.Prelude.{ℕ, ◌+◌, Bool, true, cond, ◌&&◌, List, [], ◌∷◌, ◌++◌, eqb, Result, Ok, Err}
 use Rattle.codec.specs.Question.{Outcome, done, refused, answer}
 use Rattle.codec.specs.Records.{records_of, free_extents}
 use Rattle.codec.specs.ListRefusal.{list_number, list_values}
+use Rattle.codec.specs.declared.check.ListRefusal.{ListRefusal}
 use Rattle.codec.specs.declared.free_extent.FreeExtent.{FreeExtent}
 use Rattle.free.specs.declared.order.Order.TheVariants.{ByBlock, BySize}
-use Rattle.free.specs.declared.same.Same.{Same}
-use Rattle.free.specs.declared.same.Same.TheVariants.{Said, Refused}
 use Rattle.free.specs.Free.{list_questions}
 
 -- are two extents the same
@@ -34,6 +33,6 @@ same_outcome b s =
     answer (list_questions ByBlock b ++ list_questions BySize s) (done (same_extents (records_of free_extents b) (records_of free_extents s)))
 
 -- what an answer says
-abbrev pub same_said : Same → Outcome Bool
-same_said (Said so) = done so
-same_said (Refused r) = refused (list_number r) (list_values r)
+abbrev pub same_said : Result Bool ListRefusal → Outcome Bool
+same_said (Ok so) = done so
+same_said (Err r) = refused (list_number r) (list_values r)

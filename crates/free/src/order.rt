@@ -1,14 +1,14 @@
 // A list of free extents, by block or by size: questions 19 and 21.
 ghost use Rattle.std.specs.Prelude.{◌≡◌};
-ghost use Rattle.codec.specs.Records.{records_of, free_extents};
 ghost use Rattle.codec.specs.ListRefusal.{list_outcome};
-ghost use Rattle.free.specs.Free.{end, good, smaller, follows, accepted, check_order};
+ghost use Rattle.free.specs.Free.{end, good, follows, least, check_order};
 
-use codec::check::{END_LIMIT, ListChecked, ListRefusal};
-use codec::free_extent::{EXTENT_LEN, FreeExtent, decode};
+use codec::check::{END_LIMIT, ListRefusal};
+use codec::free_extent::FreeExtent;
+use codec::list;
 
 // The orders of the two trees.
-#[derive(Clone, Copy)]
+#[derive(Clone, Copy, Debug, PartialEq, Eq)]
 pub enum Order {
     // by start
     ByBlock,
@@ -23,69 +23,37 @@ fn end(e: FreeExtent) -> u64
     e.startblock as u64 + e.blockcount as u64
 }
 
-// Is the extent good by itself?
-fn good(e: FreeExtent) -> bool
-    ensures { result ≡ good e }
-{
-    if e.blockcount == 0 {
-        return false;
-    }
-    end(e) <= END_LIMIT
-}
+impl list::Order for Order {
+    type Item = FreeExtent;
 
-// Does q come before e by count, then start?
-pub(crate) fn is_smaller(q: FreeExtent, e: FreeExtent) -> bool
-    ensures { result ≡ smaller q e }
-{
-    if q.blockcount != e.blockcount {
-        return q.blockcount < e.blockcount;
-    }
-    q.startblock < e.startblock
-}
+    ghost is_good = { λ _. good };
 
-// May e stand right after q?
-fn follows(order: Order, q: FreeExtent, e: FreeExtent) -> bool
-    ensures { result ≡ follows order q e }
-{
-    match order {
-        Order::ByBlock => end(q) <= e.startblock as u64,
-        Order::BySize => is_smaller(q, e),
-    }
-}
+    ghost may_follow = { follows };
 
-// Are the extents of the list good and in order?
-fn accepted(order: Order, list: &[u8]) -> bool
-    ensures { result ≡ accepted order (records_of free_extents list.now) }
-{
-    let n = list.len() / EXTENT_LEN;
-    let mut prev = FreeExtent {
-        startblock: 0,
-        blockcount: 0,
-    };
-    let mut i = 0;
-    while i < n {
-        let e = decode(list, i * EXTENT_LEN);
-        if !good(e) {
-            return false;
+    ghost least = { least };
+
+    fn is_good(&self, e: FreeExtent) -> bool {
+        e.blockcount != 0 && end(e) <= END_LIMIT
+    }
+
+    fn may_follow(&self, q: FreeExtent, e: FreeExtent) -> bool {
+        match self {
+            Order::ByBlock => end(q) <= e.startblock as u64,
+            Order::BySize => (q.blockcount, q.startblock) < (e.blockcount, e.startblock),
         }
-        if !follows(order, prev, e) {
-            return false;
-        }
-        prev = e;
-        i += 1;
     }
-    true
+
+    fn least(&self) -> FreeExtent {
+        FreeExtent {
+            startblock: 0,
+            blockcount: 0,
+        }
+    }
 }
 
 // Questions 19 and 21 on a list of free extents.
-pub fn check_order(order: Order, list: &[u8]) -> ListChecked
+pub fn check_order(order: Order, list: &[u8]) -> Result<usize, ListRefusal>
     ensures { list_outcome result ≡ check_order order list.now }
 {
-    if list.len() % EXTENT_LEN != 0 {
-        return ListChecked::Refused(ListRefusal::Length);
-    }
-    if !accepted(order, list) {
-        return ListChecked::Refused(ListRefusal::ExtentOrder);
-    }
-    ListChecked::Accepted(list.len() / EXTENT_LEN)
+    list::check_order(&order, ListRefusal::ExtentOrder, list)
 }

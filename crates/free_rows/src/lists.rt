@@ -1,10 +1,9 @@
 // Lists of two free extents, in order or not, and pairs of lists that hold the same extents or not.
-use crate::{either, newline, number};
-use codec::check::ListChecked;
 use codec::free_extent::{FreeExtent, encode};
+use codec::refusal::Told;
 use free::order::{Order, check_order};
-use free::same::{Same, same_extents};
-use show::lines::show_told;
+use free::same::same_extents;
+use show::lines::{either, newline, show_outcome, show_told};
 
 // The first bytes of a list of two extents.
 #[derive(Clone, Copy)]
@@ -30,32 +29,20 @@ fn two(a: u32, m: u32, b: u32, n: u32, long: usize) -> TwoExtents {
 }
 
 fn put_two(list: &mut [u8], l: TwoExtents) {
-    let first = l.first;
-    let second = l.second;
-    if list.len() < 16 {
-        return;
+    if 16 <= list.len() {
+        encode(list, 0, l.first);
+        encode(list, 8, l.second);
     }
-    encode(list, 0, first);
-    encode(list, 8, second);
 }
 
 fn row(name: &[u8], order: Order, l: TwoExtents) {
     let mut list = [0u8; 16];
     put_two(&mut list, l);
-    let long = l.long;
-    if 16 < long {
+    if 16 < l.long {
         return;
     }
     io::write_all(1, name);
-    let answer = check_order(order, &list[0..long]);
-    match answer {
-        ListChecked::Accepted(n) => {
-            number(b" accepted ", n as u64);
-        }
-        ListChecked::Refused(r) => {
-            show_told(r.told());
-        }
-    }
+    show_outcome(b" accepted ", check_order(order, &list[0..l.long]));
     newline();
 }
 
@@ -115,13 +102,10 @@ fn by_size() {
 
 fn show_same(name: &[u8], by_block: &[u8], by_size: &[u8]) {
     io::write_all(1, name);
-    let answer = same_extents(by_block, by_size);
-    match answer {
-        Same::Said(so) => {
-            either(so, b" yes", b" no");
-        }
-        Same::Refused(r) => {
-            show_told(r.told());
+    match same_extents(by_block, by_size) {
+        Ok(so) => either(so, b" yes", b" no"),
+        Err(r) => {
+            show_told(Told::from(r));
         }
     }
     newline();
@@ -133,15 +117,10 @@ fn pair(name: &[u8], by_block: TwoExtents, by_size: TwoExtents) {
     let mut second = [0u8; 16];
     put_two(&mut first, by_block);
     put_two(&mut second, by_size);
-    let a = by_block.long;
-    let b = by_size.long;
-    if 16 < a {
+    if 16 < by_block.long || 16 < by_size.long {
         return;
     }
-    if 16 < b {
-        return;
-    }
-    show_same(name, &first[0..a], &second[0..b]);
+    show_same(name, &first[0..by_block.long], &second[0..by_size.long]);
 }
 
 // The extents 10/5 and 20/3 by block.

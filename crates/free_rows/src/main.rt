@@ -1,6 +1,7 @@
 // Free space over blocks of 512 bytes, run: lists in either order, and whether two hold the same extents (lists.rt); plans; a tree by block on version 4
 // and one by size on version 5, each built, stored at scattered numbers and walked back, whole and damaged; builds and walks that are refused. A walk's
 // line says whether the levels are linked, and ends with what became of the lists and scratches. `stdout` was worked out apart from this code.
+// plan_row, build_in, show_read, show and walk_in are those of trees_rows but for the kind: `show`, which both use, knows nothing of trees.
 #![tactic(auto)]
 
 ghost use Rattle.std.specs.Prelude.{◌<◌};
@@ -9,52 +10,31 @@ mod lists;
 
 use blocks::geometry::{AgBlock, Geometry};
 use blocks::kind::TreeKind;
-use check::same;
-use codec::copy::copy;
-use codec::free_extent::{FreeExtent, encode};
-use show::lent::{show_blocks, show_scratches, show_state, show_tail, show_tails};
-use show::lines::{show_told, words};
-use show::samples::{damage, geometry};
-use trees::build::{Built, build};
-use trees::plan::{PlanAnswer, plan};
+use codec::free_extent::{EXTENT_LEN, FreeExtent, encode};
+use codec::refusal::Told;
+use show::images::{damage_in, part, store_each};
+use show::lent::{Left, show_blocks, show_output, show_tails};
+use show::lines::{either, newline, number, show_told, words};
+use show::samples::geometry;
+use trees::build::build;
+use trees::plan::plan;
+use walks::refusal::StoppedWalk;
 use walks::walk::{Linking, Walked, walk_linked};
-
-// A name, and a number in decimal.
-fn number(name: &[u8], n: u64) {
-    io::write_all(1, name);
-    io::print_decimal(1, n);
-}
-
-// The end of a line.
-fn newline() {
-    io::write_all(1, b"\n");
-}
-
-fn either(first: bool, a: &[u8], b: &[u8]) {
-    if first {
-        io::write_all(1, a);
-    } else {
-        io::write_all(1, b);
-    }
-}
 
 fn usual(version: u16) -> Geometry {
     geometry(version, 512, 1000)
 }
 
 fn plan_row(version: u16, kind: TreeKind, records: u64) {
-    let p = plan(usual(version), kind, records);
-    let answer = p.answer;
-    let total = p.total;
     number(b"version ", version as u64);
     number(b" plan of ", records);
-    match answer {
-        PlanAnswer::Levels(levels) => {
-            number(b" levels ", levels as u64);
-            number(b" blocks ", total);
+    match plan(usual(version), kind, records) {
+        Ok(p) => {
+            number(b" levels ", p.levels as u64);
+            number(b" blocks ", p.total);
         }
-        PlanAnswer::Refused(r) => {
-            show_told(r.told());
+        Err(r) => {
+            show_told(Told::from(r));
         }
     }
     newline();
@@ -85,6 +65,7 @@ fn extent(i: u32) -> FreeExtent
 // Which extent is at a place of the list by size: the 44 of one block come first, then the 43 of two, then the 43 of three.
 fn which_by_size(place: u32) -> u32
     requires { place < 130 }
+    ensures { result < 130 }
 {
     if place < 44 {
         return place * 3;
@@ -98,6 +79,7 @@ fn which_by_size(place: u32) -> u32
 // Which extent is at a place of the list of a kind of tree.
 fn which(kind: TreeKind, place: u32) -> u32
     requires { place < 130 }
+    ensures { result < 130 }
 {
     match kind {
         TreeKind::BySize => which_by_size(place),
@@ -105,26 +87,11 @@ fn which(kind: TreeKind, place: u32) -> u32
     }
 }
 
-fn put_extent(kind: TreeKind, list: &mut [u8], place: u32) {
-    if 130 <= place {
-        return;
-    }
-    let i = which(kind, place);
-    let at = (place as usize) * 8;
-    if 130 <= i {
-        return;
-    }
-    if list.len() < at + 8 {
-        return;
-    }
-    encode(list, at, extent(i));
-}
-
 fn fill(kind: TreeKind, list: &mut [u8]) {
-    let mut i: u32 = 0;
-    while i < 130 {
-        put_extent(kind, list, i);
-        i += 1;
+    for place in 0..130 {
+        if let Some(bytes) = part(list, EXTENT_LEN, place) {
+            encode(bytes, 0, extent(which(kind, place)));
+        }
     }
 }
 
@@ -133,50 +100,19 @@ fn numbers() -> [u32; 4] {
     [4u32, 0, 3, 2]
 }
 
-// Block i of some built blocks, stored at a number of the image.
-fn store(from: &[u8], i: u32, image: &mut [u8], block: u32) {
-    let a = (i as usize) * 512;
-    let e = a + 512;
-    let to = (block as usize) * 512;
-    if from.len() < e {
-        return;
-    }
-    if image.len() < to + 512 {
-        return;
-    }
-    copy(&from[a..e], image, to);
-}
-
 // A tree, stored in an image of five blocks.
 fn plant(version: u16, kind: TreeKind, image: &mut [u8]) {
     let mut list = [0u8; 1040];
     let mut out = [0u8; 2048];
     let at = numbers();
     fill(kind, &mut list);
-    build(usual(version), kind, &list, &at, &mut out);
-    store(&out, 0, image, 4);
-    store(&out, 1, image, 0);
-    store(&out, 2, image, 3);
-    store(&out, 3, image, 2);
-}
-
-fn show_built(answer: Built, out: &[u8]) {
-    match answer {
-        Built::Done(n) => {
-            number(b" built ", n as u64);
-            show_tail(out, n);
-        }
-        Built::Refused(r) => {
-            show_told(r.told());
-            show_tail(out, 0);
-        }
-    }
-    newline();
+    let _ = build(usual(version), kind, &list, &at, &mut out);
+    store_each(&out, 512, &at, image);
 }
 
 fn build_in(g: Geometry, kind: TreeKind, list: &[u8], at: &[u32], out: &mut [u8]) {
-    let answer = build(g, kind, list, at, out);
-    show_built(answer, out);
+    show_output(b" built ", build(g, kind, list, at, out), out);
+    newline();
 }
 
 // A build from so many bytes of the list of a kind, with so many block numbers, and so many bytes lent for the blocks.
@@ -193,13 +129,7 @@ fn build_row(
     let mut out = [0xEEu8; 2100];
     let at = numbers();
     fill(listed, &mut list);
-    if 1040 < long {
-        return;
-    }
-    if 4 < count {
-        return;
-    }
-    if 2100 < room {
+    if 1040 < long || 4 < count || 2100 < room {
         return;
     }
     io::write_all(1, name);
@@ -293,56 +223,32 @@ fn planted() {
 fn show_extents(kind: TreeKind, got: &[u8]) {
     let mut list = [0u8; 1040];
     fill(kind, &mut list);
-    either(same(&list, got), b" same", b" differ");
+    either(list.as_slice() == got, b" same", b" differ");
 }
 
-fn show_read(
-    kind: TreeKind,
-    visits: usize,
-    bytes: usize,
-    stack: &[u32],
-    scratch: &[u64],
-    blocks: &[u32],
-    records: &[u8],
-) {
-    if blocks.len() < visits {
+fn show_read(kind: TreeKind, w: Walked, left: Left) {
+    if left.blocks.len() < w.visits || left.records.len() < w.bytes {
         return;
     }
-    if records.len() < bytes {
-        return;
-    }
-    show_extents(kind, &records[0..bytes]);
-    show_scratches(stack, scratch);
-    show_tails(&blocks[visits..], &records[bytes..]);
+    show_extents(kind, &left.records[0..w.bytes]);
+    left.show_scratches();
+    show_tails(&left.blocks[w.visits..], &left.records[w.bytes..]);
     io::write_all(1, b" blocks");
-    show_blocks(&blocks[0..visits]);
+    show_blocks(&left.blocks[0..w.visits]);
 }
 
-fn show(
-    answer: Linking,
-    kind: TreeKind,
-    stack: &[u32],
-    scratch: &[u64],
-    blocks: &[u32],
-    list: &[u8],
-) {
-    let walked = answer.walked;
-    let linked = answer.linked;
-    match walked {
-        Walked::Read {
-            visits,
-            records,
-            bytes,
-        } => {
-            number(b" read visits ", visits as u64);
-            number(b" records ", records as u64);
+fn show(answer: Result<Linking, StoppedWalk>, kind: TreeKind, left: Left) {
+    match answer {
+        Ok(Linking { walked, linked }) => {
+            number(b" read visits ", walked.visits as u64);
+            number(b" records ", walked.records as u64);
             either(linked, b" linked", b" not linked");
-            show_read(kind, visits, bytes, stack, scratch, blocks, list);
+            show_read(kind, walked, left);
         }
-        Walked::Refused { refusal, visits } => {
-            show_told(refusal.told());
+        Err(StoppedWalk { refusal, visits }) => {
+            show_told(Told::from(refusal));
             number(b" visits ", visits as u64);
-            show_state(stack, scratch, blocks, list);
+            left.show_state();
         }
     }
     newline();
@@ -370,7 +276,16 @@ fn walk_in(
         blocks,
         records,
     );
-    show(answer, kind, stack, scratch, blocks, records);
+    show(
+        answer,
+        kind,
+        Left {
+            stack,
+            scratch,
+            blocks,
+            records,
+        },
+    );
 }
 
 // A walk that is lent so many places of the stack, out of 20, and so many bytes for records, out of 1100.
@@ -388,10 +303,7 @@ fn walk_row(
     let mut scratch = [0xEEu64; 5];
     let mut blocks = [0xEEu32; 5];
     let mut records = [0xEEu8; 1100];
-    if 20 < places {
-        return;
-    }
-    if 1100 < room {
+    if 20 < places || 1100 < room {
         return;
     }
     io::write_all(1, name);
@@ -456,15 +368,6 @@ fn taken() {
     taken_row(b"by size, 5, as counts", 5, size, 5, TreeKind::Refcount);
 }
 
-fn damage_in(image: &mut [u8], block: u32, at: usize, value: u8, again: bool) {
-    let a = (block as usize) * 512;
-    let e = a + 512;
-    if image.len() < e {
-        return;
-    }
-    damage(&mut image[a..e], at, value, again);
-}
-
 // A walk with one byte of a block damaged, the block's check put in again on version 5 where asked.
 fn damaged_row(
     name: &[u8],
@@ -477,7 +380,7 @@ fn damaged_row(
 ) {
     let mut image = [0xEEu8; 2560];
     plant(version, kind, &mut image);
-    damage_in(&mut image, block, at, value, again);
+    damage_in(&mut image, 512, block, at, value, again);
     walk_row(name, usual(version), kind, &image, 2, 2, 20, 1100);
 }
 

@@ -21,15 +21,13 @@ use Rattle.lists.specs.Held as held
 use Rattle.lists.specs.RmapEdits as edits
 use Rattle.lists.specs.Release as release
 use Rattle.lists.specs.Raise as raise
-use Rattle.lists.specs.declared.Edited.{Edited}
-use Rattle.lists.specs.declared.Edited.TheVariants as edited
+use Rattle.std.specs.Prelude.{Result, Ok, Err}
+use Rattle.lists.specs.declared.EditRefusal.{EditRefusal}
 use Rattle.lists.specs.Edits.{insert_outcome, written}
 use Rattle.lists.specs.Answer.{EditIs}
 use Rattle.lists.proofs.Cases.{split}
 use Rattle.lists.proofs.Laws.{written-front}
 use Rattle.groups.specs.declared.Sizes.{Sizes}
-use Rattle.groups.specs.declared.GroupEdited.{GroupEdited}
-use Rattle.groups.specs.declared.GroupEdited.TheVariants as both
 use Rattle.groups.specs.Joint.{NewLists, fit_all}
 use Rattle.groups.specs.LetGo.{let_go_outcome}
 use Rattle.groups.specs.TakeHeld.{raising, take_held_questions, take_held_outcome}
@@ -49,20 +47,20 @@ front-is k b rs n e f = ap₂ (λ (m : ℕ) (l : List ℕ). bytes.take m l) e f 
 abbrev Leaves : Lists → Call → Outcome Left → Type 0
 Leaves σ k o = (onward σ k ≡ after σ o) × (offered_bytes k ≡ bytes_of free_extents (offered o))
 
-inserted : (σ : Lists) (x : Rmap) (fits : RmapFits x) (r : Edited) (new : Buffer) (o : Outcome (List Rmap)) → EditIs o r new.entry new.exit
+inserted : (σ : Lists) (x : Rmap) (fits : RmapFits x) (r : Result ℕ EditRefusal) (new : Buffer) (o : Outcome (List Rmap)) → EditIs o r new.entry new.exit
     → Leaves σ (inserting x fits r new) (map_outcome (took σ) o)
 unfolding after bytes_of
-inserted σ x fits (edited.Done n) new (done rs) p =
+inserted σ x fits (Ok n) new (done rs) p =
     let e : done n ≡ done (length (bytes_of rmaps rs)) = p.said in
     let q : n ≡ length (bytes_of rmaps rs) = cc in
     (ap (λ (l : List ℕ). lists_of l σ.counts) (front-is rmaps new rs n q p.wrote), refl)
-inserted σ x fits (edited.Done n) new (refused m v) p = let e = p.said in let z : ◌≡◌ {A = ℕ} 0 1 = cc in absurd (omega arith)
-inserted σ x fits (edited.Refused q) new (done rs) p = let e = p.said in let z : ◌≡◌ {A = ℕ} 0 1 = cc in absurd (omega arith)
-inserted σ x fits (edited.Refused q) new (refused m v) p = (refl, refl)
+inserted σ x fits (Ok n) new (refused m v) p = let e = p.said in let z : ◌≡◌ {A = ℕ} 0 1 = cc in absurd (omega arith)
+inserted σ x fits (Err q) new (done rs) p = let e = p.said in let z : ◌≡◌ {A = ℕ} 0 1 = cc in absurd (omega arith)
+inserted σ x fits (Err q) new (refused m v) p = (refl, refl)
 
 -- the new lists of an edit of both: an edit that is done hands them on, with the first bytes of what was lent for free extents
 both-new : (n : Sizes) (map counts free : Buffer) (g : NewLists)
-    → GroupEditIs (done g) (both.Done n) map.entry map.exit counts.entry counts.exit free.entry free.exit
+    → GroupEditIs (done g) (Ok n) map.entry map.exit counts.entry counts.exit free.entry free.exit
     → (lists_of (front n.map map) (front n.counts counts) ≡ (changed g).lists) × (front n.free free ≡ bytes_of free_extents g.free)
 both-new n map counts free g p =
     let e : done n ≡ sizes_of (done g) = p.said in
@@ -89,25 +87,25 @@ take-frees-none map counts x room counts_room =
     let g : NewLists = raising x (records_of rmaps map) (records_of refcounts counts) in
     frees-none (take_held_questions map counts x ++ (ask 26 (fit_all g room counts_room 0) ∷ [])) g refl
 
-taken-held : (σ : Lists) (x : Rmap) (fits : RmapFits x) (r : GroupEdited) (map counts : Buffer) (o : Outcome NewLists) → FreesNone o
+taken-held : (σ : Lists) (x : Rmap) (fits : RmapFits x) (r : Result Sizes EditRefusal) (map counts : Buffer) (o : Outcome NewLists) → FreesNone o
     → GroupEditIs o r map.entry map.exit counts.entry counts.exit [] []
     → Leaves σ (taking_held x fits r map counts) (map_outcome changed o)
 unfolding after bytes_of
-taken-held σ x fits (both.Done n) map counts (done g) f p =
+taken-held σ x fits (Ok n) map counts (done g) f p =
     let z : g.free ≡ [] = cc in
     ((both-new n map counts unlent g p).0, rw z refl)
-taken-held σ x fits (both.Done n) map counts (refused m v) f p = let e = p.said in let z : ◌≡◌ {A = ℕ} 0 1 = cc in absurd (omega arith)
-taken-held σ x fits (both.Refused q) map counts (done g) f p = let e = p.said in let z : ◌≡◌ {A = ℕ} 0 1 = cc in absurd (omega arith)
-taken-held σ x fits (both.Refused q) map counts (refused m v) f p = (refl, refl)
+taken-held σ x fits (Ok n) map counts (refused m v) f p = let e = p.said in let z : ◌≡◌ {A = ℕ} 0 1 = cc in absurd (omega arith)
+taken-held σ x fits (Err q) map counts (done g) f p = let e = p.said in let z : ◌≡◌ {A = ℕ} 0 1 = cc in absurd (omega arith)
+taken-held σ x fits (Err q) map counts (refused m v) f p = (refl, refl)
 
-let-gone : (σ : Lists) (x : Rmap) (r : GroupEdited) (kept lowered free : Buffer) (o : Outcome NewLists)
+let-gone : (σ : Lists) (x : Rmap) (r : Result Sizes EditRefusal) (kept lowered free : Buffer) (o : Outcome NewLists)
     → GroupEditIs o r kept.entry kept.exit lowered.entry lowered.exit free.entry free.exit
     → Leaves σ (letting_go x r kept lowered free) (map_outcome changed o)
 unfolding after bytes_of
-let-gone σ x (both.Done n) kept lowered free (done g) p = both-new n kept lowered free g p
-let-gone σ x (both.Done n) kept lowered free (refused m v) p = let e = p.said in let z : ◌≡◌ {A = ℕ} 0 1 = cc in absurd (omega arith)
-let-gone σ x (both.Refused q) kept lowered free (done g) p = let e = p.said in let z : ◌≡◌ {A = ℕ} 0 1 = cc in absurd (omega arith)
-let-gone σ x (both.Refused q) kept lowered free (refused m v) p = (refl, refl)
+let-gone σ x (Ok n) kept lowered free (done g) p = both-new n kept lowered free g p
+let-gone σ x (Ok n) kept lowered free (refused m v) p = let e = p.said in let z : ◌≡◌ {A = ℕ} 0 1 = cc in absurd (omega arith)
+let-gone σ x (Err q) kept lowered free (done g) p = let e = p.said in let z : ◌≡◌ {A = ℕ} 0 1 = cc in absurd (omega arith)
+let-gone σ x (Err q) kept lowered free (refused m v) p = (refl, refl)
 
 -- ---- the claims
 
@@ -141,15 +139,15 @@ abbrev lent : List ℕ → ℕ → Buffer
 lent b n = record { entry = replicate (length b + n) 255; exit = b ++ replicate n 255 }
 
 abbrev first_call : Call
-first_call = inserting (record_of 0 4 7 0) (small-fits 0 4 7 0 (omega arith)) (edited.Done 24) (lent first_lists.map 2)
+first_call = inserting (record_of 0 4 7 0) (small-fits 0 4 7 0 (omega arith)) (Ok 24) (lent first_lists.map 2)
 
 abbrev second_call : Call
 second_call =
-    taking_held (record_of 1 2 9 0) (small-fits 1 2 9 0 (omega arith)) (both.Done (record { map = 48; counts = 12; free = 0 })) (lent shared_lists.map 1) (lent shared_lists.counts 3)
+    taking_held (record_of 1 2 9 0) (small-fits 1 2 9 0 (omega arith)) (Ok (record { map = 48; counts = 12; free = 0 })) (lent shared_lists.map 1) (lent shared_lists.counts 3)
 
 abbrev fourth_call : Call
 fourth_call =
-    letting_go (record_of 0 4 7 0) (both.Done (record { map = 24; counts = 0; free = 16 })) (lent last_lists.map 0) (lent last_lists.counts 5)
+    letting_go (record_of 0 4 7 0) (Ok (record { map = 24; counts = 0; free = 16 })) (lent last_lists.map 0) (lent last_lists.counts 5)
     (lent (bytes_of free_extents (free_at 0 1 ∷ free_at 3 1 ∷ [])) 4)
 
 abbrev calls : List Call

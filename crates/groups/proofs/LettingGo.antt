@@ -13,10 +13,9 @@ use Rattle.codec.specs.declared.refcount.Refcount.{Refcount}
 use Rattle.codec.proofs.Meaning.{done-means}
 use Rattle.lists.specs.declared.EditRefusal.{EditRefusal}
 use Rattle.lists.specs.declared.Lengths.{Lengths}
-use Rattle.lists.specs.declared.Released.TheVariants as released
+use Rattle.std.specs.Prelude.{Ok, Err}
 use Rattle.lists.specs.declared.splice.Edit.TheVariants.{Remove}
 use Rattle.lists.specs.declared.splice.Splice.{Splice}
-use Rattle.lists.specs.declared.splice.Prepared.TheVariants as prepared
 use Rattle.lists.specs.RmapEdits.{contained}
 use Rattle.lists.specs.Release.{clear}
 use Rattle.lists.specs.Edits.{map_questions, count_questions, Freed}
@@ -26,7 +25,6 @@ use Rattle.lists.specs.Splice.{edit_before26, prepared_outcome, list_of, Prepare
 use Rattle.lists.proofs.RmapOrder.{good-facts}
 use Rattle.groups.specs.declared.Sizes.{Sizes}
 use Rattle.groups.specs.declared.measured.Measure.{Measure}
-use Rattle.groups.specs.declared.measured.Measured.TheVariants as measured
 use Rattle.groups.specs.Joint.{NewLists}
 use Rattle.groups.specs.LetGo.{letting, let_go_questions}
 use Rattle.groups.specs.Answer.{sizes}
@@ -69,11 +67,11 @@ module _ (map counts : List ℕ) (x : Rmap) where
   abbrev freed : Freed
   freed = record { counts = g.counts; free = g.free }
 
-  pub measured-map : (q : EditRefusal) → PreparedIs Remove map x (prepared.Refused q) → LetGoMeasured map counts x (measured.Refused q)
+  pub measured-map : (q : EditRefusal) → PreparedIs Remove map x (Err q) → LetGoMeasured map counts x (Err q)
   unfolding prepared_outcome edit_before26
   measured-map q h = answer-refused map_asks counts_asks g.map (done g) (edit_number q) none (sym h.0)
 
-  module _ (p : Splice) (h : PreparedIs Remove map x (prepared.Ready p)) where
+  module _ (p : Splice) (h : PreparedIs Remove map x (Ok p)) where
     prepared-is : answer map_asks (done g.map) ≡ done (list_of m p)
     unfolding prepared_outcome edit_before26
     prepared-is = sym h.0
@@ -86,15 +84,15 @@ module _ (map counts : List ℕ) (x : Rmap) where
     unfolding measure_outcome
     measure-is = rw (extent-good x (done-means map_asks g.map (list_of m p) prepared-is).0.1.1.0) refl
 
-    pub measured-counts : (q : EditRefusal) → released_outcome (released.Refused q) ≡ lengths_of (measure_outcome counts x.startblock x.blockcount)
-        → LetGoMeasured map counts x (measured.Refused q)
+    pub measured-counts : (q : EditRefusal) → released_outcome (Err q) ≡ lengths_of (measure_outcome counts x.startblock x.blockcount)
+        → LetGoMeasured map counts x (Err q)
     measured-counts q e =
         after_map
         ∙ answer-refused counts_asks [] freed (done g) (edit_number q) none
         (sym measure-is ∙ lengths-refused (edit_number q) none (measure_outcome counts x.startblock x.blockcount) e)
 
-    pub measured-ready : (n : Lengths) → released_outcome (released.Done n) ≡ lengths_of (measure_outcome counts x.startblock x.blockcount)
-        → LetGoMeasured map counts x (measured.Ready (record { splice = p; sizes = record { map = p.size; counts = n.counts; free = n.free } }))
+    pub measured-ready : (n : Lengths) → released_outcome (Ok n) ≡ lengths_of (measure_outcome counts x.startblock x.blockcount)
+        → LetGoMeasured map counts x (Ok (record { splice = p; sizes = record { map = p.size; counts = n.counts; free = n.free } }))
     measured-ready n e =
         let k = lengths-done n (measure_outcome counts x.startblock x.blockcount) e in
         let a : answer counts_asks (done freed) ≡ done k.0 = sym measure-is ∙ k.1 in
@@ -108,7 +106,7 @@ module _ (map counts : List ℕ) (x : Rmap) where
         record { asked = after_map ∙ answer-done counts_asks [] freed k.0 (done g) a; splice = h.1; list = l; measured = z }
 
   -- what the questions say to the second half
-  pub writable : (n : Measure) → LetGoMeasured map counts x (measured.Ready n) → (room free_room : ℕ) → length (bytes_of refcounts g.counts) ≤ room
+  pub writable : (n : Measure) → LetGoMeasured map counts x (Ok n) → (room free_room : ℕ) → length (bytes_of refcounts g.counts) ≤ room
       → length (bytes_of free_extents g.free) ≤ free_room → Writable c x.startblock x.blockcount room free_room
   writable n h room free_room i j =
       let q = (done-means (let_go_questions map counts x) g g h.asked).0 in

@@ -3,10 +3,9 @@
 use Prim.Native.Nat.{ℕ, ◌/◌, ◌≤◌, ◌<◌}
 use native.Mathlib.Omega.{arith}
 use mathlib.Core.Path.{◌≡◌, refl, sym, ap, ◌∙◌}
-use mathlib.Core.Bool.{Bool, true, false, not}
+use mathlib.Core.Bool.{Bool, true, false}
 use mathlib.Core.List.{List, [], ◌∷◌, ◌++◌}
 use lib.ListN.{length}
-use borrow.Author.Tests.{not-true, not-false}
 use Rattle.codec.specs.Bytes.{with_bytes}
 use Rattle.codec.specs.Question.{none, Outcome, done, refused, ask, answer}
 use Rattle.codec.specs.Records.{records_of, bytes_of, rmaps, refcounts, free_extents}
@@ -16,7 +15,7 @@ use Rattle.codec.specs.Refcounts as refcount
 use Rattle.codec.specs.ListRefusal.{list_number, list_outcome}
 use Rattle.codec.specs.declared.check.ListRefusal.{ListRefusal}
 use Rattle.codec.specs.declared.check.ListRefusal.TheVariants as list
-use Rattle.codec.specs.declared.check.ListChecked.TheVariants as checked
+use Rattle.std.specs.Prelude.{Ok, Err}
 use Rattle.codec.specs.declared.rmap.Rmap.{Rmap}
 use Rattle.codec.specs.declared.refcount.Refcount.{Refcount}
 use Rattle.codec.proofs.Meaning.{done-means}
@@ -24,7 +23,6 @@ use Rattle.lists.specs.declared.EditRefusal.{EditRefusal}
 use Rattle.lists.specs.declared.EditRefusal.TheVariants as why
 use Rattle.lists.specs.declared.splice.Edit.TheVariants.{InsertShared}
 use Rattle.lists.specs.declared.splice.Splice.{Splice}
-use Rattle.lists.specs.declared.splice.Prepared.TheVariants as prepared
 use Rattle.lists.specs.Extent.{good_extent}
 use Rattle.lists.specs.Held.{held_all}
 use Rattle.lists.specs.RmapEdits.{unclashed}
@@ -36,7 +34,6 @@ use Rattle.lists.specs.Splice.{edit_before26, prepared_outcome, list_of, Prepare
 use Rattle.lists.proofs.RmapOrder.{good-facts}
 use Rattle.groups.specs.declared.Sizes.{Sizes}
 use Rattle.groups.specs.declared.measured.Measure.{Measure}
-use Rattle.groups.specs.declared.measured.Measured.TheVariants as measured
 use Rattle.groups.specs.Joint.{NewLists}
 use Rattle.groups.specs.TakeHeld.{raising, take_held_questions}
 use Rattle.groups.specs.Answer.{sizes}
@@ -73,13 +70,13 @@ after_list counts why.Room k = refl
 after_list counts why.Unheld k = refl
 after_list counts why.Owners k = refl
 
-pub counts-refused : (counts : List ℕ) (q : EditRefusal) → NotList q → (r : ListRefusal) → list_outcome (checked.Refused r) ≡ refcount.check_order counts
+pub counts-refused : (counts : List ℕ) (q : EditRefusal) → NotList q → (r : ListRefusal) → list_outcome (Err r) ≡ refcount.check_order counts
     → counts_before counts q ≡ refused (list_number r) none
 unfolding refcount.check_order
 counts-refused counts q k r e =
     after_list counts q k ∙ answer-refused (count_questions counts) [] (length counts / 12) (refused (edit_number q) none) (list_number r) none (sym e)
 
-pub counts-accepted : (counts : List ℕ) (q : EditRefusal) → NotList q → (n : ℕ) → list_outcome (checked.Accepted n) ≡ refcount.check_order counts
+pub counts-accepted : (counts : List ℕ) (q : EditRefusal) → NotList q → (n : ℕ) → list_outcome (Ok n) ≡ refcount.check_order counts
     → counts_before counts q ≡ refused (edit_number q) none
 unfolding refcount.check_order
 counts-accepted counts q k n e =
@@ -136,12 +133,12 @@ module _ (map counts : List ℕ) (x : Rmap) where
   splice-order why.Unheld p = by-extent 27 p (omega arith)
   splice-order why.Owners p = by-extent 28 p (omega arith)
 
-  pub refused-by-map : (q t : EditRefusal) → PreparedIs InsertShared map x (prepared.Refused q) → counts_before counts q ≡ refused (edit_number t) none
-      → TakeHeldMeasured map counts x (measured.Refused t)
+  pub refused-by-map : (q t : EditRefusal) → PreparedIs InsertShared map x (Err q) → counts_before counts q ≡ refused (edit_number t) none
+      → TakeHeldMeasured map counts x (Err t)
   unfolding prepared_outcome
   refused-by-map q t p e = splice-order q p.0 ∙ e
 
-  module _ (p : Splice) (h : PreparedIs InsertShared map x (prepared.Ready p)) where
+  module _ (p : Splice) (h : PreparedIs InsertShared map x (Ok p)) where
     -- what the splice's answer says of its questions
     said : ((whole rmaps.size map ≡ true) × (rmap.accepted m ≡ true) × (rmap.good x ≡ true) × (unclashed x m ≡ true)) × (list_of m p ≡ g.map)
     unfolding prepared_outcome edit_before26
@@ -183,7 +180,7 @@ module _ (map counts : List ℕ) (x : Rmap) where
     raise-order why.Owners e = by-owners e
 
     pub refused-by-counts : (q t : EditRefusal) → Raises (refused (edit_number q) none) → held_before m x q ≡ refused (edit_number t) none
-        → TakeHeldMeasured map counts x (measured.Refused t)
+        → TakeHeldMeasured map counts x (Err t)
     refused-by-counts q t e f = raise-order q e ∙ f
 
     module _ (n : ℕ) (e : Raises (done n)) where
@@ -203,27 +200,25 @@ module _ (map counts : List ℕ) (x : Rmap) where
           let q = d.0 in
           ((q.0, q.1.0, q.1.1.1.0, q.1.1.1.1.0), k.2 ∙ ap (λ (l : List Refcount). length (bytes_of refcounts l)) (sym d.1))
 
-      pub refused-unheld : (all' : Bool) → all' ≡ all → not all' ≡ true → TakeHeldMeasured map counts x (measured.Refused why.Unheld)
-      refused-unheld all' a f =
+      pub refused-unheld : all ≡ false → TakeHeldMeasured map counts x (Err why.Unheld)
+      refused-unheld z =
           let s = said.0 in
           let k = measured-is.0 in
-          let z : all ≡ false = sym a ∙ not-true all' f in
           rw (s.0, s.1, k.0, k.1, s.2, s.3, k.2, z) refl
 
-      pub raise-ready : (all' : Bool) → all' ≡ all → not all' ≡ false
-          → TakeHeldMeasured map counts x (measured.Ready (record { splice = p; sizes = record { map = p.size; counts = n; free = 0 } }))
+      pub raise-ready : all ≡ true
+          → TakeHeldMeasured map counts x (Ok (record { splice = p; sizes = record { map = p.size; counts = n; free = 0 } }))
       unfolding bytes_of
-      raise-ready all' a f =
+      raise-ready z =
           let s = said.0 in
           let k = measured-is.0 in
-          let z : all ≡ true = sym a ∙ not-false all' f in
           let u : p.size ≡ length (bytes_of rmaps g.map) = h.1.size ∙ ap (λ (l : List Rmap). length (bytes_of rmaps l)) said.1 in
           let v : n ≡ length (bytes_of refcounts g.counts) = measured-is.1 in
           let w : ◌≡◌ {A = Sizes} (record { map = p.size; counts = n; free = 0 }) (sizes g) = λ i. record { map = u i; counts = v i; free = 0 } in
           record { asked = rw (s.0, s.1, k.0, k.1, s.2, s.3, k.2, z, k.3) refl; splice = h.1; list = said.1; measured = w }
 
   -- what the questions say to the second half
-  pub raisable : (n : Measure) → TakeHeldMeasured map counts x (measured.Ready n) → (room : ℕ) → length (bytes_of refcounts g.counts) ≤ room
+  pub raisable : (n : Measure) → TakeHeldMeasured map counts x (Ok n) → (room : ℕ) → length (bytes_of refcounts g.counts) ≤ room
       → Raisable c x.startblock x.blockcount room
   raisable n h room i =
       let q = (done-means (take_held_questions map counts x) g g h.asked).0 in

@@ -2,17 +2,15 @@
 -- proofs/Calling.antt proves `EveryCall` and `EveryCalls`, at the end: those bytes are the lists of the history, and the bytes that a let go offers
 -- are those of its free extents.
 -- Assumes nothing.
-use Rattle.std.specs.Prelude.{ℕ, ◌≡◌, List, [], ◌∷◌, length}
+use Rattle.std.specs.Prelude.{ℕ, ◌≡◌, List, [], ◌∷◌, length, Result, Ok, Err}
 use Rattle.std.proofs.Math.ListN as bytes
 use Rattle.codec.specs.Question.{Outcome, done, refused}
 use Rattle.codec.specs.Records.{bytes_of, RmapFits, free_extents}
 use Rattle.codec.specs.declared.rmap.Rmap.{Rmap}
 use Rattle.codec.specs.declared.free_extent.FreeExtent.{FreeExtent}
-use Rattle.lists.specs.declared.Edited.{Edited}
-use Rattle.lists.specs.declared.Edited.TheVariants as edited
+use Rattle.lists.specs.declared.EditRefusal.{EditRefusal}
 use Rattle.lists.specs.Answer.{Inserts}
-use Rattle.groups.specs.declared.GroupEdited.{GroupEdited}
-use Rattle.groups.specs.declared.GroupEdited.TheVariants as both
+use Rattle.groups.specs.declared.Sizes.{Sizes}
 use Rattle.groups.specs.Answer.{LetsGo, TakesHeld}
 use Rattle.groups.specs.History.{Lists, Change, take, take_held, let_go, Left, step, after, run}
 
@@ -24,9 +22,9 @@ pub record Buffer : Type 0 where
 -- ---- a call, with its answer and what was lent
 
 pub data Call : Type 0 where
-  inserting : (x : Rmap) → RmapFits x → Edited → (new : Buffer) → Call
-  taking_held : (x : Rmap) → RmapFits x → GroupEdited → (taken raised : Buffer) → Call
-  letting_go : Rmap → GroupEdited → (kept lowered free : Buffer) → Call
+  inserting : (x : Rmap) → RmapFits x → Result ℕ EditRefusal → (new : Buffer) → Call
+  taking_held : (x : Rmap) → RmapFits x → Result Sizes EditRefusal → (taken raised : Buffer) → Call
+  letting_go : Rmap → Result Sizes EditRefusal → (kept lowered free : Buffer) → Call
 
 -- made with the lists σ it keeps its contract
 abbrev pub Promised : Lists → Call → Type 0
@@ -50,19 +48,19 @@ lists_of map counts = record { map = map; counts = counts }
 
 -- the lists that a caller goes on with: the new ones where the call was done, the old ones where it was refused
 abbrev pub onward : Lists → Call → Lists
-onward σ (inserting x fits (edited.Done n) new) = lists_of (front n new) σ.counts
-onward σ (inserting x fits (edited.Refused q) new) = σ
-onward σ (taking_held x fits (both.Done n) map counts) = lists_of (front n.map map) (front n.counts counts)
-onward σ (taking_held x fits (both.Refused q) map counts) = σ
-onward σ (letting_go x (both.Done n) kept lowered free) = lists_of (front n.map kept) (front n.counts lowered)
-onward σ (letting_go x (both.Refused q) kept lowered free) = σ
+onward σ (inserting x fits (Ok n) new) = lists_of (front n new) σ.counts
+onward σ (inserting x fits (Err q) new) = σ
+onward σ (taking_held x fits (Ok n) map counts) = lists_of (front n.map map) (front n.counts counts)
+onward σ (taking_held x fits (Err q) map counts) = σ
+onward σ (letting_go x (Ok n) kept lowered free) = lists_of (front n.map kept) (front n.counts lowered)
+onward σ (letting_go x (Err q) kept lowered free) = σ
 
 -- the bytes of the free extents that a caller is offered
 abbrev pub offered_bytes : Call → List ℕ
 offered_bytes (inserting x fits r new) = []
 offered_bytes (taking_held x fits r map counts) = []
-offered_bytes (letting_go x (both.Done n) kept lowered free) = front n.free free
-offered_bytes (letting_go x (both.Refused q) kept lowered free) = []
+offered_bytes (letting_go x (Ok n) kept lowered free) = front n.free free
+offered_bytes (letting_go x (Err q) kept lowered free) = []
 
 -- the free extents that a change offers
 abbrev pub offered : Outcome Left → List FreeExtent

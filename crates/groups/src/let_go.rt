@@ -2,37 +2,29 @@
 ghost use Rattle.groups.specs.Answer.{LetsGo};
 ghost use Rattle.groups.specs.Inner.Measured.{LetGoMeasured};
 
-use crate::measured::{Measure, Measured, fit_all};
-use crate::{GroupEdited, Sizes};
+use crate::Sizes;
+use crate::measured::{Measure, fit_all};
 use codec::rmap::Rmap;
+use lists::EditRefusal;
 use lists::refcounts::{measure, write};
 use lists::rmap_edits::prepare;
-use lists::splice::{Edit, Prepared};
+use lists::splice::Edit;
 use lists::write::write_splice;
-use lists::{EditRefusal, Released};
 
 // All questions but 26: 19, 20, 22, 24, then 19, 21, 25. Nothing is written.
-fn measure_both(map: &[u8], counts: &[u8], x: Rmap) -> Measured
+fn measure_both(map: &[u8], counts: &[u8], x: Rmap) -> Result<Measure, EditRefusal>
     ensures { LetGoMeasured map.now counts.now x result }
 {
-    let prepared = prepare(map, Edit::Remove, x);
-    match prepared {
-        Prepared::Refused(why) => Measured::Refused(why),
-        Prepared::Ready(p) => {
-            let released = measure(counts, x.startblock, x.blockcount);
-            match released {
-                Released::Refused(why) => Measured::Refused(why),
-                Released::Done(n) => {
-                    let sizes = Sizes {
-                        map: p.size,
-                        counts: n.counts,
-                        free: n.free,
-                    };
-                    Measured::Ready(Measure { splice: p, sizes })
-                }
-            }
-        }
-    }
+    let splice = prepare(map, Edit::Remove, x)?;
+    let n = measure(counts, x.startblock, x.blockcount)?;
+    Ok(Measure {
+        splice,
+        sizes: Sizes {
+            map: splice.size,
+            counts: n.counts,
+            free: n.free,
+        },
+    })
 }
 
 // Lets the extent x go: its owner's mapping leaves the reverse map, the counts of its blocks are lowered, and the blocks that no shared record
@@ -45,22 +37,15 @@ pub fn let_go(
     kept: &mut [u8],
     lowered: &mut [u8],
     free: &mut [u8],
-) -> GroupEdited
+) -> Result<Sizes, EditRefusal>
     ensures { LetsGo map.now counts.now x result
         kept.old kept.new lowered.old lowered.new free.old free.new }
 {
-    let measured = measure_both(map, counts, x);
-    match measured {
-        Measured::Refused(why) => GroupEdited::Refused(why),
-        Measured::Ready(m) => {
-            let p = m.splice;
-            let n = m.sizes;
-            if !fit_all(n, kept.len(), lowered.len(), free.len()) {
-                return GroupEdited::Refused(EditRefusal::Room);
-            }
-            write_splice(map, p, kept);
-            write(counts, x.startblock, x.blockcount, lowered, free);
-            GroupEdited::Done(n)
-        }
+    let m = measure_both(map, counts, x)?;
+    if !fit_all(m.sizes, kept.len(), lowered.len(), free.len()) {
+        return Err(EditRefusal::Room);
     }
+    write_splice(map, m.splice, kept);
+    write(counts, x.startblock, x.blockcount, lowered, free);
+    Ok(m.sizes)
 }

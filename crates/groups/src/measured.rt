@@ -2,8 +2,10 @@
 ghost use Rattle.std.specs.Prelude.{◌≡◌, ◌&&◌, leb};
 
 use crate::Sizes;
-use lists::EditRefusal;
 use lists::splice::Splice;
+
+// Both lists and the extent are three parameters in either edit, as the two promises have them. After `fit_all` each edit writes by two calls, and only the
+// first is the same.
 
 // The splice of the new reverse map, and the bytes of all that is to be written.
 #[derive(Clone, Copy)]
@@ -12,21 +14,9 @@ pub(crate) struct Measure {
     pub sizes: Sizes,
 }
 
-#[derive(Clone, Copy)]
-pub(crate) enum Measured {
-    Refused(EditRefusal),
-    Ready(Measure),
-}
-
 // 26: do the new reverse map, the new counts and the free extents fit what was lent?
 pub(crate) fn fit_all(n: Sizes, map: usize, counts: usize, free: usize) -> bool
     ensures { result ≡ (leb n.map map && (leb n.counts counts && leb n.free free)) }
 {
-    if map < n.map {
-        return false;
-    }
-    if counts < n.counts {
-        return false;
-    }
-    n.free <= free
+    n.map <= map && n.counts <= counts && n.free <= free
 }

@@ -8,17 +8,16 @@ ghost use Rattle.groups.specs.Answer.{TakesHeld};
 ghost use Rattle.groups.specs.Inner.Measured.{TakeHeldMeasured};
 ghost use Rattle.groups.specs.Inner.Order.{counts_before, held_before};
 
-use crate::measured::{Measure, Measured, fit_all};
-use crate::{GroupEdited, Sizes};
-use codec::check::ListChecked;
+use crate::Sizes;
+use crate::measured::{Measure, fit_all};
 use codec::refcount::check_order;
 use codec::rmap::Rmap;
+use lists::EditRefusal;
 use lists::held::held;
 use lists::raises::{measure, write};
 use lists::rmap_edits::prepare;
-use lists::splice::{Edit, Prepared};
+use lists::splice::Edit;
 use lists::write::write_splice;
-use lists::{EditRefusal, Edited};
 
 // The reverse map is refused. A refusal of its list comes first of all; 19 and 21 of the counts come before one of the extent, 22 or 23.
 fn counts_before(counts: &[u8], why: EditRefusal) -> EditRefusal
@@ -26,13 +25,10 @@ fn counts_before(counts: &[u8], why: EditRefusal) -> EditRefusal
 {
     match why {
         EditRefusal::List(_) => why,
-        _ => {
-            let checked = check_order(counts);
-            match checked {
-                ListChecked::Refused(list) => EditRefusal::List(list),
-                ListChecked::Accepted(_) => why,
-            }
-        }
+        _ => match check_order(counts) {
+            Err(list) => EditRefusal::from(list),
+            Ok(_) => why,
+        },
     }
 }
 
@@ -52,31 +48,30 @@ fn held_before(map: &[u8], x: Rmap, why: EditRefusal) -> EditRefusal
     }
 }
 
-// All questions but 26: 19, 20 of the reverse map, 19, 21 of the counts, then 22, 23, 25, 27 and 28. Nothing is written.
-fn measure_both(map: &[u8], counts: &[u8], x: Rmap) -> Measured
+// All questions but 26: 19, 20 of the reverse map, 19, 21 of the counts, then 22, 23, 25, 27 and 28. Nothing is written. No `?`: either refusal may be
+// another one after further questions, and through `map_err` the proof did not close.
+fn measure_both(map: &[u8], counts: &[u8], x: Rmap) -> Result<Measure, EditRefusal>
     ensures { TakeHeldMeasured map.now counts.now x result }
 {
-    let prepared = prepare(map, Edit::InsertShared, x);
-    match prepared {
-        Prepared::Refused(why) => Measured::Refused(counts_before(counts, why)),
-        Prepared::Ready(p) => {
-            let raised = measure(counts, x.startblock, x.blockcount);
-            match raised {
-                Edited::Refused(why) => Measured::Refused(held_before(map, x, why)),
-                Edited::Done(n) => {
-                    if !held(map, x.startblock, x.blockcount) {
-                        return Measured::Refused(EditRefusal::Unheld);
-                    }
-                    let sizes = Sizes {
-                        map: p.size,
-                        counts: n,
-                        free: 0,
-                    };
-                    Measured::Ready(Measure { splice: p, sizes })
-                }
-            }
-        }
+    let splice = match prepare(map, Edit::InsertShared, x) {
+        Err(why) => return Err(counts_before(counts, why)),
+        Ok(p) => p,
+    };
+    let raised = match measure(counts, x.startblock, x.blockcount) {
+        Err(why) => return Err(held_before(map, x, why)),
+        Ok(n) => n,
+    };
+    if !held(map, x.startblock, x.blockcount) {
+        return Err(EditRefusal::Unheld);
     }
+    Ok(Measure {
+        splice,
+        sizes: Sizes {
+            map: splice.size,
+            counts: raised,
+            free: 0,
+        },
+    })
 }
 
 // Takes an extent whose blocks are all held: its mapping goes into the reverse map, and the owners of its blocks are raised. Asks 19 and 20 of the
@@ -88,22 +83,15 @@ pub fn take_held(
     x: Rmap,
     taken: &mut [u8],
     raised: &mut [u8],
-) -> GroupEdited
+) -> Result<Sizes, EditRefusal>
     ensures { TakesHeld map.now counts.now x result
         taken.old taken.new raised.old raised.new }
 {
-    let measured = measure_both(map, counts, x);
-    match measured {
-        Measured::Refused(why) => GroupEdited::Refused(why),
-        Measured::Ready(m) => {
-            let p = m.splice;
-            let n = m.sizes;
-            if !fit_all(n, taken.len(), raised.len(), 0) {
-                return GroupEdited::Refused(EditRefusal::Room);
-            }
-            write_splice(map, p, taken);
-            write(counts, x.startblock, x.blockcount, raised);
-            GroupEdited::Done(n)
-        }
+    let m = measure_both(map, counts, x)?;
+    if !fit_all(m.sizes, taken.len(), raised.len(), 0) {
+        return Err(EditRefusal::Room);
     }
+    write_splice(map, m.splice, taken);
+    write(counts, x.startblock, x.blockcount, raised);
+    Ok(m.sizes)
 }

@@ -8,6 +8,7 @@ use codec::endian::put_be64;
 use codec::rmap::Rmap;
 
 // A geometry. The 16 bytes of the UUID are two big-endian numbers.
+// The numbers come one by one, as the C interface has them.
 pub fn geometry(
     version: u16,
     blocksize: u32,
@@ -23,16 +24,17 @@ pub fn geometry(
     put_be64(&mut uuid, 0, uuid_high);
     put_be64(&mut uuid, 8, uuid_low);
     Geometry {
-        version: version,
-        blocksize: blocksize,
-        agblocks: agblocks,
-        agno: agno,
+        version,
+        blocksize,
+        agblocks,
+        agno,
         meta_uuid: uuid,
-        last_lsn: last_lsn,
+        last_lsn,
     }
 }
 
 // A kind of tree: 0 is the reverse map, 2 free space by block and 3 free space by size; 1, and any other number, the counts.
+// A number, as the C interface has it; a `From` would have to stand in `blocks`, which knows nothing of that interface.
 pub fn tree_kind(kind: u32) -> TreeKind
     ensures { result ≡ kind_of kind }
 {
@@ -49,9 +51,9 @@ pub fn extent(startblock: u32, blockcount: u32, owner: u64, offset: u64) -> Rmap
     ensures { result ≡ extent_of startblock blockcount owner offset }
 {
     Rmap {
-        startblock: startblock,
-        blockcount: blockcount,
-        owner: owner,
-        offset: offset,
+        startblock,
+        blockcount,
+        owner,
+        offset,
     }
 }

@@ -6,10 +6,10 @@ ghost use Rattle.groups.specs.TakeHeld.{take_held_outcome};
 ghost use Rattle.interface.specs.Interface.{extent_of};
 ghost use Rattle.list_calls.specs.ListCalls.{EditSays, ReleaseSays, GroupEditSays};
 
-use crate::answers::{edited_answer, group_edited_answer, released_answer};
+use crate::figures::{group_figures, length_figures, release_figures};
 use groups::let_go::let_go;
 use groups::take_held::take_held;
-use interface::answer::say;
+use interface::answer::{answer_of, say};
 use interface::given::extent;
 use lists::refcounts::release;
 use lists::rmap_edits::{insert, insert_shared, remove};
@@ -29,7 +29,7 @@ pub extern "C" fn kf_insert(
         result said.new new_map.old new_map.new }
 {
     let x = extent(startblock, blockcount, owner, offset);
-    say(edited_answer(insert(old, x, new_map)), said)
+    say(answer_of(insert(old, x, new_map), length_figures), said)
 }
 
 // Takes an extent whose blocks others may hold: questions 19, 20, 22, 23 and 26. The counts are left alone: kf_take_held is the call for held
@@ -48,7 +48,10 @@ pub extern "C" fn kf_insert_shared(
         result said.new new_map.old new_map.new }
 {
     let x = extent(startblock, blockcount, owner, offset);
-    say(edited_answer(insert_shared(old, x, new_map)), said)
+    say(
+        answer_of(insert_shared(old, x, new_map), length_figures),
+        said,
+    )
 }
 
 // Gives an extent up: questions 19, 20, 22, 24 and 26.
@@ -66,7 +69,7 @@ pub extern "C" fn kf_remove(
         result said.new new_map.old new_map.new }
 {
     let x = extent(startblock, blockcount, owner, offset);
-    say(edited_answer(remove(old, x, new_map)), said)
+    say(answer_of(remove(old, x, new_map), length_figures), said)
 }
 
 // Lowers the counts over an extent: questions 19, 21, 22, 25 and 26. The figures are the bytes of the new counts and of the free extents.
@@ -84,7 +87,7 @@ pub extern "C" fn kf_release(
         result said.new new_counts.old new_counts.new free_extents.old free_extents.new }
 {
     let released = release(counts, startblock, blockcount, new_counts, free_extents);
-    say(released_answer(released), said)
+    say(answer_of(released, release_figures), said)
 }
 
 // The whole letting go: questions 19, 20, 22 and 24, then 19, 21 and 25, then 26. The figures are the bytes of the new reverse map, of the new
@@ -110,7 +113,7 @@ pub extern "C" fn kf_let_go(
 {
     let x = extent(startblock, blockcount, owner, offset);
     let edited = let_go(map, counts, x, new_map, new_counts, free_extents);
-    say(group_edited_answer(edited), said)
+    say(answer_of(edited, group_figures), said)
 }
 
 // A take of blocks that others hold: questions 19 and 20, 19 and 21, then 22, 23, 25, 27, 28 and 26. The figures are the bytes of the new reverse
@@ -135,5 +138,5 @@ pub extern "C" fn kf_take_held(
 {
     let x = extent(startblock, blockcount, owner, offset);
     let edited = take_held(map, counts, x, new_map, new_counts);
-    say(group_edited_answer(edited), said)
+    say(answer_of(edited, group_figures), said)
 }

@@ -8,9 +8,9 @@ ghost use Rattle.list_calls.specs.ExplainFigures.{explain_figures};
 
 use codec::refcount::REFCOUNT_LEN;
 use codec::rmap::RMAP_LEN;
-use interface::answer::{Answer, refused, say};
+use interface::answer::{answer_of, say};
 use interface::given::extent;
-use reasons::explain::{Explained, Why, decide};
+use reasons::explain::{Why, decide};
 
 // The figures of what decides. The record named stands in a list of fewer than 2^64 bytes, so where it begins is a number of 64 bits.
 fn why_figures(w: Why) -> [u64; 4]
@@ -19,18 +19,9 @@ fn why_figures(w: Why) -> [u64; 4]
 {
     match w {
         Why::Free => [0, 0, 0, 0],
-        Why::HeldInMap(i) => {
-            let at = i * RMAP_LEN;
-            [1, 1, at as u64, RMAP_LEN as u64]
-        }
-        Why::HeldInCounts(i) => {
-            let at = i * REFCOUNT_LEN;
-            [1, 2, at as u64, REFCOUNT_LEN as u64]
-        }
-        Why::Staging(i) => {
-            let at = i * REFCOUNT_LEN;
-            [2, 2, at as u64, REFCOUNT_LEN as u64]
-        }
+        Why::HeldInMap(i) => [1, 1, (i * RMAP_LEN) as u64, RMAP_LEN as u64],
+        Why::HeldInCounts(i) => [1, 2, (i * REFCOUNT_LEN) as u64, REFCOUNT_LEN as u64],
+        Why::Staging(i) => [2, 2, (i * REFCOUNT_LEN) as u64, REFCOUNT_LEN as u64],
     }
 }
 
@@ -52,12 +43,5 @@ pub extern "C" fn kf_explain(
         result said.new }
 {
     let x = extent(startblock, blockcount, owner, offset);
-    let explained = decide(map, counts, x, block);
-    match explained {
-        Explained::Said(w) => {
-            let figures = why_figures(w);
-            say(Answer { number: 0, figures }, said)
-        }
-        Explained::Refused(r) => say(refused(r.told(), 0), said),
-    }
+    say(answer_of(decide(map, counts, x, block), why_figures), said)
 }

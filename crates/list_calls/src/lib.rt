@@ -3,7 +3,7 @@
 // a precondition; what a caller owes with its pointers is in docs/INTERFACE.md.
 #![tactic(auto)]
 
-mod answers;
 pub mod edits;
 pub mod explaining;
+mod figures;
 pub mod sheet_calls;

@@ -3,8 +3,8 @@ ghost use Rattle.std.specs.Prelude.{length};
 ghost use Rattle.sheets.specs.Sheet.{read_outcome, write_outcome};
 ghost use Rattle.list_calls.specs.ListCalls.{SheetSays};
 
-use crate::answers::sheet_answer;
-use interface::answer::say;
+use crate::figures::length_figures;
+use interface::answer::{answer_of, say};
 use sheets::read::read_sheet;
 use sheets::write::write_sheet;
 
@@ -14,7 +14,7 @@ pub extern "C" fn kf_read_sheet(sheet: &[u8], changes: &mut [u8], said: &mut [u6
     ensures { SheetSays (read_outcome sheet.now (length changes.old)) result said.new
         changes.old changes.new }
 {
-    say(sheet_answer(read_sheet(sheet, changes)), said)
+    say(answer_of(read_sheet(sheet, changes), length_figures), said)
 }
 
 // The sheet of a list of changes: questions 33 and 26. The figure is its bytes.
@@ -23,5 +23,5 @@ pub extern "C" fn kf_write_sheet(changes: &[u8], sheet: &mut [u8], said: &mut [u
     ensures { SheetSays (write_outcome changes.now (length sheet.old)) result said.new
         sheet.old sheet.new }
 {
-    say(sheet_answer(write_sheet(changes, sheet)), said)
+    say(answer_of(write_sheet(changes, sheet), length_figures), said)
 }

@@ -3,11 +3,11 @@
 use Prim.Native.Nat.{ℕ, ◌+◌, ◌-◌, ◌*◌, ◌^◌, ◌≤◌, ◌<◌, min, max}
 use native.Mathlib.Omega.{arith}
 use mathlib.Core.Path.{◌≡◌, refl, sym, ap, ◌∙◌}
-use mathlib.Core.Bool.{Bool, true, false, not, ◌&&◌, and-false}
+use mathlib.Core.Bool.{Bool, true, false, ◌&&◌, and-false}
 use mathlib.Core.List.{List, [], ◌∷◌, ◌++◌, append_assoc, append-nil}
 use lib.Dec.{ltb, leb, eqb}
 use lib.ListN.{length, length-append}
-use borrow.Author.Tests.{lt-ltb, le-ltb, le-leb, lt-leb, eq-eqb, ne_eqb, eqb-false}
+use borrow.Author.Tests.{lt-ltb, le-ltb, lt-leb, eq-eqb, ne_eqb, eqb-false}
 use Rattle.codec.specs.Records.{bytes_of, refcounts}
 use Rattle.codec.specs.Refcounts.{block, end}
 use Rattle.codec.specs.declared.refcount.Refcount.{Refcount}
@@ -106,30 +106,9 @@ share-some : (a z n : ℕ) → a < z → 0 < n → share a z n ≡ record { star
 unfolding share piece
 share-some a z n h k = rw (ne_eqb n 0 (omega arith), lt-ltb a z h) refl
 
-pub fewer-none : (n : ℕ) → n ≤ 2 → 0 ≡ fewer n
-unfolding fewer
-fewer-none n h = rw (le-leb n 2 h) refl
-
-pub fewer-some : (n : ℕ) → 2 < n → n - 1 ≡ fewer n
-unfolding fewer
-fewer-some n h = rw (lt-leb n 2 h) refl
-
-pub more-full : (n : ℕ) → 2 ^ 32 - 1 ≤ n → n ≡ more n
-unfolding more
-more-full n h = rw (le-leb (2 ^ 32 - 1) n h) refl
-
 pub more-some : (n : ℕ) → n < 2 ^ 32 - 1 → n + 1 ≡ more n
 unfolding more
 more-some n h = rw (lt-leb (2 ^ 32 - 1) n h) refl
-
-module _ (up : Bool) (n m : ℕ) where
-  pub next_more : up ≡ true → m ≡ more n → m ≡ next up n
-  unfolding next
-  next_more h e = rw h e
-
-  pub next-fewer : up ≡ false → m ≡ fewer n → m ≡ next up n
-  unfolding next
-  next-fewer h e = rw h e
 
 -- ---- one push
 
@@ -245,19 +224,6 @@ module _ (w : Bool) (j : Joiner) (a z n : ℕ) (h : a < z) (o : 0 < n) (lies : L
               let y : ◌≡◌ {A = Bool} true false = sym (goes-true j a n p e) ∙ g in
               cc
           go false false p q = unfold join_on join_from pending in rw (p, q) refl
-
-module _ (j : Joiner) (a n : ℕ) where
-  pub goes_none : j.count ≡ 0 → false ≡ goes_on j a n
-  unfolding goes_on
-  goes_none h = rw (eq-eqb j.count 0 h) refl
-
-  pub goes-owners : 0 < j.count → j.start + j.count ≡ a → eqb j.owners n ≡ goes_on j a n
-  unfolding goes_on
-  goes-owners h k = rw (ne_eqb j.count 0 (omega arith), eq-eqb (j.start + j.count) a k) refl
-
-  pub goes-gap : (j.start + j.count ≡ a → ⊥) → false ≡ goes_on j a n
-  unfolding goes_on
-  goes-gap h = rw (ne_eqb (j.start + j.count) a h) (sym (and-false (not (eqb j.count 0))))
 
 -- ---- one push after another
 
@@ -387,17 +353,11 @@ module _ (start end s e : ℕ) where
   pub meets-by : s < end → ltb start e ≡ (ltb s end && ltb start e)
   meets-by h = rw (lt-ltb s end h) refl
 
-  pub meets-start : (ltb s end && ltb start e) ≡ true → start < e
-  meets-start h = let k : ltb start e ≡ true = search conj in omega tests
-
 -- a record that lies within the extent
 
 module _ (start end s e : ℕ) where
   pub within-not : start < s → false ≡ (leb s start && leb end e)
   within-not h = rw (lt-leb s start h) refl
-
-  pub within_by : s ≤ start → leb end e ≡ (leb s start && leb end e)
-  within_by h = rw (le-leb s start h) refl
 
 module _ (up w : Bool) (s e : ℕ) (j : Joiner) (r : Refcount) (out : List ℕ) (cut : Cut up w s e j r (length out)) (met : r.startblock < e)
     (within : (leb s r.startblock && leb (stop r) e) ≡ true) (m : ℕ) (qm : m ≡ next up r.refcount) where

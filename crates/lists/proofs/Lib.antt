@@ -28,6 +28,7 @@ pub mod CountJoins
 pub mod Changes
 pub mod FreeGaps
 pub mod Passing
+pub mod Measuring
 pub mod Releasing
 pub mod RaiseExits
 pub mod Staying

@@ -22,19 +22,18 @@ use Rattle.codec.proofs.FieldLists.{IsBytes-take, IsBytes-drop}
 use Rattle.codec.proofs.RecordLists.{length-records_of, records_of-next, storable-first_records}
 use Rattle.codec.proofs.RecordKinds.{refcounts-lawful}
 use Rattle.lists.specs.declared.EditRefusal.TheVariants as why
-use Rattle.lists.specs.declared.Released.TheVariants as released
+use Rattle.std.specs.Prelude.{Ok, Err}
 use Rattle.lists.specs.declared.carried.Joiner.{Joiner}
 use Rattle.lists.specs.declared.carried.Carried.{Carried}
 use Rattle.lists.specs.Release.{stop, clear, join_all, share}
-use Rattle.lists.specs.Raise.{full, owners_fit, Raisable}
-use Rattle.lists.specs.Steps.{Writable}
-use Rattle.lists.specs.Inner.Passes.{fit_if, pass_outcome, Passable, put_if, gap_of, pending, join_on, fresh, changed, changed_from, change_all, begun, Lies, Fits, Room, Cut, Pushed, StepAsks, Stepped, PassIs}
+use Rattle.lists.specs.Raise.{full, owners_fit}
+use Rattle.lists.specs.Inner.Passes.{fit_if, pass_outcome, Passable, put_if, gap_of, pending, join_on, fresh, changed_from, change_all, begun, Lies, Fits, Room, Pushed, StepAsks, Stepped, PassIs}
 use Rattle.lists.proofs.Cases.{tests, and-true, and-on}
 use Rattle.lists.proofs.Places.{good_place, accepted_from, good-place, follows-place}
 use Rattle.lists.proofs.Counts.{OfKind, shared, staged, Good, from-facts, accepted-facts}
 use Rattle.lists.proofs.Runs.{gaps, unshared-gaps}
 use Rattle.lists.proofs.Puts.{put-done, Going, going_start, going-put, going-room, going_end}
-use Rattle.lists.proofs.CountJoins.{join_on-nil, join_on-more, room_for, pushed-pushed}
+use Rattle.lists.proofs.CountJoins.{join_on-nil, join_on-more, room_for}
 use Rattle.lists.proofs.Changes.{counts_after-is}
 use Rattle.lists.proofs.FreeGaps.{gap-place, gaps-step, gaps-end}
 
@@ -259,7 +258,7 @@ module _ (up write list : Bool) (all : List Refcount) (s e : ℕ) (new₀ free�
         → (n ≡ length (bytes_of free_extents (gaps s e all))) × (free' ≡ put_if list free₀ 0 (bytes_of free_extents (gaps s e all)))
     gap-done n free' h b = going_end list _ free₀ free free' w.free n _ _ last.extents (gaps-end w.gap e) h b
 
--- the gap before a record is filled, and then the record is changed
+-- the gap before a record is filled
 module _ (up write list : Bool) (s e : ℕ) (w : Carried) (r : Refcount) (new : List ℕ) (free_room : ℕ) (ask : StepAsks up write list s e w r (length new) free_room)
     (z : ℕ) (qz : z ≡ min r.startblock e) where
   pub fill-before : ((z ≤ 2 ^ 31) × (w.joiner.start + w.joiner.count ≤ w.gap)) × (Fits w.joiner × Room write w.joiner (length new))
@@ -267,28 +266,6 @@ module _ (up write list : Bool) (s e : ℕ) (w : Carried) (r : Refcount) (new : 
     (omega (arith, ask.end), ask.gap),
     (ask.fits, room_for write w.joiner (changed_from up s e w.gap r) (length new) ask.counts),
   )
-
-  module _ (j : Joiner) (new₁ : List ℕ) (n₁ : length new₁ ≡ length new)
-      (p : Pushed write w.joiner new (share w.gap z (fresh up)) (max (w.joiner.start + w.joiner.count) z) j new₁) where
-    before : Pushed write w.joiner new (share w.gap (min r.startblock e) (fresh up)) (max (w.joiner.start + w.joiner.count) z) j new₁
-    before = rw (← qz) p
-
-    pub cut-asks : Cut up write s e j r (length new₁)
-    cut-asks =
-        record {
-          extent = ask.extent;
-          end = ask.end;
-          fits = p.fits;
-          lies = ask.lies;
-          owned = ask.owned;
-          behind = omega (arith, p.behind, ask.behind);
-          room = λ u. omega (arith, ask.counts u, before.size (changed up s e r));
-        }
-
-    pub filled-changed : (k : Joiner) (new₂ : List ℕ) → Pushed write j new₁ (changed up s e r) (stop r) k new₂
-        → Pushed write w.joiner new (changed_from up s e w.gap r) (stop r) k new₂
-    filled-changed k new₂ g =
-        pushed-pushed write w.joiner j k new new₁ new₂ (share w.gap (min r.startblock e) (fresh up)) (changed up s e r) (max (w.joiner.start + w.joiner.count) z) (stop r) before g
 
 -- ---- the answer at each exit
 
@@ -310,24 +287,24 @@ module _ (up write list : Bool) (all : List Refcount) (start count : ℕ) (new�
       }
 
   module _ (new' free' : List ℕ) where
-    pub told-order : accepted all ≡ false → PassIs up write list all start count (released.Refused (why.List ExtentOrder)) new₀ new' free₀ free'
+    pub told-order : accepted all ≡ false → PassIs up write list all start count (Err (why.List ExtentOrder)) new₀ new' free₀ free'
     unfolding pass_outcome
     told-order h = record { said = rw h refl; counts = λ u. never _ (ask.accepted u) h; extents = λ u. never _ (ask.accepted (ask.listed u)) h }
 
     module _ (h : accepted all ≡ true) where
-      pub told-staging : clear start (start + count) all ≡ false → PassIs up write list all start count (released.Refused why.Staging) new₀ new' free₀ free'
+      pub told-staging : clear start (start + count) all ≡ false → PassIs up write list all start count (Err why.Staging) new₀ new' free₀ free'
       unfolding pass_outcome
       told-staging k = record { said = rw (h, k) refl; counts = λ u. never _ (ask.clear u) k; extents = λ u. never _ (ask.clear (ask.listed u)) k }
 
       module _ (k : clear start (start + count) all ≡ true) where
-        pub told-owners : fit_if up start (start + count) all ≡ false → PassIs up write list all start count (released.Refused why.Owners) new₀ new' free₀ free'
+        pub told-owners : fit_if up start (start + count) all ≡ false → PassIs up write list all start count (Err why.Owners) new₀ new' free₀ free'
         unfolding pass_outcome
         told-owners o = record { said = rw (h, k, o) refl; counts = λ u. never _ (ask.owners u) o; extents = λ u. never _ (ask.owners (ask.listed u)) o }
 
         pub told-done : (n m : ℕ) → AllStorable refcounts all → fit_if up start (start + count) all ≡ true
             → (n ≡ length (C (join_all (change_all up start (start + count) start all)))) × (new' ≡ put_if write new₀ 0 (C (join_all (change_all up start (start + count) start all))))
             → (m ≡ length (bytes_of free_extents (gaps start (start + count) all))) × (free' ≡ put_if list free₀ 0 (bytes_of free_extents (gaps start (start + count) all)))
-            → PassIs up write list all start count (released.Done (record { counts = n; free = m })) new₀ new' free₀ free'
+            → PassIs up write list all start count (Ok (record { counts = n; free = m })) new₀ new' free₀ free'
         unfolding pass_outcome
         told-done n m st o a b =
             let facts = accepted-facts all st h in
@@ -345,12 +322,6 @@ module _ (l : List Refcount) (start count room free_room : ℕ) where
   -- the first step writes nothing
   pub asks-measured : (up : Bool) → start + count ≤ 2 ^ 31 → Passable up l start count false false room free_room
   asks-measured up h = record { end = h; listed = λ u. u; accepted = no; clear = no; owners = no; counts = no; free = no }
-
-  pub asks-release : Writable l start count room free_room → Passable false l start count true true room free_room
-  asks-release h = record { end = h.end; listed = λ u. u; accepted = λ u. h.accepted; clear = λ u. h.clear; owners = λ u. refl; counts = λ u. h.counts; free = λ u. h.free }
-
-  pub asks-raise : Raisable l start count room → Passable true l start count true false room free_room
-  asks-raise h = record { end = h.end; listed = no; accepted = λ u. h.accepted; clear = λ u. h.clear; owners = λ u. h.owners; counts = λ u. h.counts; free = no }
 
 -- ---- the next record of the counts b
 
@@ -370,3 +341,48 @@ module _ (up write list : Bool) (b : List ℕ) (start count : ℕ) (new₀ free�
       let fit = small b i r inside read bytes in
       carrying-step up write list (records_of refcounts b) start (start + count) new₀ free₀ new free w (rooms-of up write list (records_of refcounts b) start count new₀ free₀ ask (storable b bytes))
       r (drop i (records_of refcounts b)) (drop (i + 1) (records_of refcounts b)) (next b i r inside read) carrying fit.0 fit.1 g f
+
+-- ---- no record more of the counts b
+
+module _ (up write list : Bool) (b : List ℕ) (start count : ℕ) (new₀ free₀ new free : List ℕ) (w : Carried) (ask : Passable up (records_of refcounts b) start count write list (length new₀) (length free₀))
+    (bytes : IsBytes b) (i : ℕ) (past : length b / 12 ≤ i)
+    (carrying : Carrying up write list (records_of refcounts b) start (start + count) new₀ free₀ new free w (drop i (records_of refcounts b))) where
+  abbrev l : List Refcount
+  l = records_of refcounts b
+
+  rooms : Rooms up write list l start (start + count) (length new₀) (length free₀)
+  rooms = rooms-of up write list l start count new₀ free₀ ask (storable b bytes)
+
+  ordered : accepted l ≡ true
+  ordered = last-accepted up write list l start (start + count) new₀ free₀ new free w rooms _ (no_more b i past) carrying
+
+  cleared : (t : Bool) → w.clear ≡ t → clear start (start + count) l ≡ t
+  cleared = last-clear up write list l start (start + count) new₀ free₀ new free w rooms _ (no_more b i past) carrying
+
+  fitted : fit_if up start (start + count) l ≡ not (up && not w.fit)
+  fitted = last_fit up write list l start (start + count) new₀ free₀ new free w rooms _ (no_more b i past) carrying
+
+  pub end-staging : w.clear ≡ false → PassIs up write list l start count (Err why.Staging) new₀ new free₀ free
+  end-staging k = told-staging up write list l start count new₀ free₀ ask new free ordered (cleared false k)
+
+  pub end-owners : w.clear ≡ true → (up && not w.fit) ≡ true → PassIs up write list l start count (Err why.Owners) new₀ new free₀ free
+  end-owners k o = told-owners up write list l start count new₀ free₀ ask new free ordered (cleared true k) (fitted ∙ ap not o)
+
+  pub end-fill : ((start + count ≤ 2 ^ 31) × (w.joiner.start + w.joiner.count ≤ w.gap)) × (Fits w.joiner × Room write w.joiner (length new))
+  end-fill = fill-asks up write list l start (start + count) new₀ free₀ new free w rooms _ (no_more b i past) carrying
+
+  pub end-gap : ((w.free ≤ 2 ^ 36) × (start + count ≤ 2 ^ 31)) × (list ≡ true → w.free + length (bytes_of free_extents (gap_of w.gap (start + count))) ≤ length free)
+  end-gap = gap-asks up write list l start (start + count) new₀ free₀ new free w rooms _ (no_more b i past) carrying
+
+  module _ (j : Joiner) (z : ℕ) (new₁ : List ℕ) (n₁ : length new₁ ≡ length new) (p : Pushed write w.joiner new (share w.gap (start + count) (fresh up)) z j new₁) where
+    pub end-finish : Fits j × Room write j (length new₁)
+    end-finish = finish-asks up write list l start (start + count) new₀ free₀ new free w rooms _ (no_more b i past) carrying j z new₁ n₁ p
+
+    pub end-done : w.clear ≡ true → (up && not w.fit) ≡ false → (n m : ℕ) (new' free' : List ℕ)
+        → n ≡ j.at + length (C (pending j)) → new' ≡ put_if write new₁ j.at (C (pending j))
+        → m ≡ w.free + length (bytes_of free_extents (gap_of w.gap (start + count))) → free' ≡ put_if list free w.free (bytes_of free_extents (gap_of w.gap (start + count)))
+        → PassIs up write list l start count (Ok (record { counts = n; free = m })) new₀ new' free₀ free'
+    end-done k o n m new' free' hn bn hm bm =
+        told-done up write list l start count new₀ free₀ ask new' free' ordered (cleared true k) n m (storable b bytes) (fitted ∙ ap not o)
+        (finish-done up write list l start (start + count) new₀ free₀ new free w rooms _ (no_more b i past) carrying j z new₁ n₁ p n new' hn bn)
+        (gap-done up write list l start (start + count) new₀ free₀ new free w rooms _ (no_more b i past) carrying m free' hm bm)

@@ -16,20 +16,17 @@ use Rattle.codec.specs.declared.rmap.Rmap.{Rmap}
 use Rattle.codec.proofs.RecordLists.{length-records_of}
 use Rattle.lists.specs.declared.EditRefusal.{EditRefusal}
 use Rattle.lists.specs.declared.EditRefusal.TheVariants as why
-use Rattle.lists.specs.declared.Edited.TheVariants as said
-use Rattle.lists.specs.declared.findings.Asked.TheVariants as asked
+use Rattle.std.specs.Prelude.{Some, None, Ok, Err}
 use Rattle.lists.specs.declared.splice.Edit.{Edit}
 use Rattle.lists.specs.declared.splice.Part.{Part}
 use Rattle.lists.specs.declared.splice.Splice.{Splice}
-use Rattle.lists.specs.declared.splice.Prepared.{Prepared}
-use Rattle.lists.specs.declared.splice.Prepared.TheVariants as prepared
 use Rattle.lists.specs.Held.{held_none, no_overlap}
 use Rattle.lists.specs.RmapEdits.{index_where, any, continues, joined, overlaps, later}
 use Rattle.lists.specs.Edits.{written, allowed, edited}
 use Rattle.lists.specs.Answer.{edit_number, length_of, EditIs}
-use Rattle.lists.specs.Splice.{edit_before26, parts_of, part_count, list_of, PartsGood, SpliceGood, PreparedIs, PreparedGood, prepared_outcome}
+use Rattle.lists.specs.Splice.{edit_before26, parts_of, part_count, list_of, PartsGood, PreparedIs, prepared_outcome}
 use Rattle.lists.specs.Inner.Searches.{TakeGood, AskedIs}
-use Rattle.lists.specs.Inner.Splicing.{edit_outcome, join_at, roomed}
+use Rattle.lists.specs.Inner.Splicing.{edit_outcome, join_at, SpliceIs, roomed}
 use Rattle.lists.proofs.Cases.{or_l}
 use Rattle.lists.proofs.Index.{index-le, any-index}
 use Rattle.lists.proofs.Holding.{overlaps-tell}
@@ -71,17 +68,17 @@ later-is x w m n o p q e = rw (e, p, q) refl
 -- ---- a join
 
 module _ (b : List ℕ) (behind : Bool) (i : ℕ) (x : Rmap) where
-  pub joined-out : length b / 24 ≤ i → record { rmap = x; joins = false } ≡ join_at behind (records_of rmaps b) i x
+  pub joined-out : length b / 24 ≤ i → None ≡ join_at behind (records_of rmaps b) i x
   joined-out h = join-out behind (records_of rmaps b) i x (rw (length-records_of rmaps b) h)
 
   module _ (r low high : Rmap) (k : i < length b / 24) (d : r ≡ rmaps.decode (bytes_at b (i * 24) 24)) (el : low ≡ cond behind r x) (eh : high ≡ cond behind x r) where
     within : i < length (records_of rmaps b)
     within = rw (length-records_of rmaps b) k
 
-    pub joined-miss : continues low high ≡ false → record { rmap = x; joins = false } ≡ join_at behind (records_of rmaps b) i x
+    pub joined-miss : continues low high ≡ false → None ≡ join_at behind (records_of rmaps b) i x
     joined-miss h = join-miss behind (records_of rmaps b) i x r within (read_at b i r k d) (rw (el, eh) at h)
 
-    pub joined-hit : (j : Rmap) → j ≡ joined low high → continues low high ≡ true → record { rmap = j; joins = true } ≡ join_at behind (records_of rmaps b) i x
+    pub joined-hit : (j : Rmap) → j ≡ joined low high → continues low high ≡ true → Some j ≡ join_at behind (records_of rmaps b) i x
     joined-hit j e h = rw (e, el, eh) (join-hit behind (records_of rmaps b) i x r within (read_at b i r k d) (rw (el, eh) at h))
 
     pub joined-fits : accepted (records_of rmaps b) ≡ true → end x ≤ 2 ^ 31 → continues low high ≡ true → low.blockcount + high.blockcount < 2 ^ 32
@@ -90,40 +87,38 @@ module _ (b : List ℕ) (behind : Bool) (i : ℕ) (x : Rmap) where
 -- ---- splices
 
 pub ready-is : (b : List ℕ) (front : ℕ) (first second : Part) (rest m n : ℕ) → PartsGood (length b / 24) front first second rest → m ≡ part_count first → n ≡ part_count second
-    → (prepared_outcome (records_of rmaps b) (prepared.Ready (record { front = front; first = first; second = second; rest = rest; size = (front + m + n + (length b / 24 - rest)) * 24 }))
-    ≡ done (parts_of (records_of rmaps b) front first second rest))
-    × SpliceGood (records_of rmaps b) (record { front = front; first = first; second = second; rest = rest; size = (front + m + n + (length b / 24 - rest)) * 24 })
-unfolding prepared_outcome
+    → SpliceIs (records_of rmaps b) front first second rest (record { front = front; first = first; second = second; rest = rest; size = (front + m + n + (length b / 24 - rest)) * 24 })
 ready-is b front first second rest m n g e f =
     let s = length-records_of rmaps b in
-    (refl, size-good (records_of rmaps b) front first second rest ((front + m + n + (length b / 24 - rest)) * 24) (rw s g) (rw (s, e, f) refl))
+    record { list = refl; good = size-good (records_of rmaps b) front first second rest ((front + m + n + (length b / 24 - rest)) * 24) (rw s g) (rw (s, e, f) refl) }
 
 module _ (e : Edit) (b : List ℕ) (x : Rmap) where
-  pub prepared-is : TakeGood b x → (p : Prepared) (rs : List Rmap) → (allowed e x (records_of rmaps b)).holds ≡ true → edited e x (records_of rmaps b) ≡ rs
-      → (prepared_outcome (records_of rmaps b) p ≡ done rs) × PreparedGood (records_of rmaps b) p → PreparedIs e b x p
-  prepared-is g p rs h f r = (r.0 ∙ prepare-done e b x g rs h f, r.1)
+  pub prepared-is : TakeGood b x → (a : ℕ) (p q : Part) (z : ℕ) (s : Splice) → (allowed e x (records_of rmaps b)).holds ≡ true → edited e x (records_of rmaps b) ≡ parts_of (records_of rmaps b) a p q z
+      → SpliceIs (records_of rmaps b) a p q z s → PreparedIs e b x (Ok s)
+  unfolding prepared_outcome
+  prepared-is g a p q z s h f r = (ap (λ (l : List Rmap). done l) r.list ∙ prepare-done e b x g (parts_of (records_of rmaps b) a p q z) h f, r.good)
 
   pub refused-is : TakeGood b x → (q : EditRefusal) → (allowed e x (records_of rmaps b)).holds ≡ false → (allowed e x (records_of rmaps b)).number ≡ edit_number q → (allowed e x (records_of rmaps b)).values ≡ none
-      → PreparedIs e b x (prepared.Refused q)
+      → PreparedIs e b x (Err q)
   unfolding prepared_outcome
   refused-is g q h n v = (prepare-refused e b x g (edit_number q) h n v, tt)
 
-  pub asked_is : (q : EditRefusal) → AskedIs e b x (asked.Refused q) → PreparedIs e b x (prepared.Refused q)
+  pub asked_is : (q : EditRefusal) → AskedIs e b x (Err q) → PreparedIs e b x (Err q)
   unfolding prepared_outcome edit_before26
   asked_is q h = (sym (h (allowed e x (records_of rmaps b) ∷ []) (done (edited e x (records_of rmaps b)))), tt)
 
   -- ---- 26, and the write
 
   module _ (o : List ℕ) where
-    pub edit-refused : (q : EditRefusal) → PreparedIs e b x (prepared.Refused q)
-        → EditIs (edit_outcome e b x (length o)) (said.Refused q) o o
+    pub edit-refused : (q : EditRefusal) → PreparedIs e b x (Err q)
+        → EditIs (edit_outcome e b x (length o)) (Err q) o o
     unfolding prepared_outcome roomed written
     edit-refused q h =
         let a : refused (edit_number q) none ≡ edit_outcome e b x (length o) = ap (roomed (length o)) h.0 ∙ room-asked e b x (length o) in
         record { said = ap (length_of rmaps) a; wrote = ap (written rmaps o) a }
 
-    module _ (p : Splice) (h : PreparedIs e b x (prepared.Ready p)) where
-      pub edit-short : length o < p.size → EditIs (edit_outcome e b x (length o)) (said.Refused why.Room) o o
+    module _ (p : Splice) (h : PreparedIs e b x (Ok p)) where
+      pub edit-short : length o < p.size → EditIs (edit_outcome e b x (length o)) (Err why.Room) o o
       unfolding prepared_outcome roomed written
       edit-short k =
           let l : List Rmap = list_of (records_of rmaps b) p in
@@ -133,7 +128,7 @@ module _ (e : Edit) (b : List ℕ) (x : Rmap) where
           record { said = ap (length_of rmaps) c; wrote = ap (written rmaps o) c }
 
       pub edit-done : (o₁ : List ℕ) → p.size ≤ length o → o₁ ≡ with_bytes o 0 (bytes_of rmaps (list_of (records_of rmaps b) p))
-          → EditIs (edit_outcome e b x (length o)) (said.Done p.size) o o₁
+          → EditIs (edit_outcome e b x (length o)) (Ok p.size) o o₁
       unfolding prepared_outcome roomed written
       edit-done o₁ k w =
           let l : List Rmap = list_of (records_of rmaps b) p in

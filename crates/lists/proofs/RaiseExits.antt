@@ -1,55 +1,26 @@
 -- The exits of a raise, in the order of its questions, and what the second step may take from the first.
 -- Assumes nothing.
-use Prim.Native.Nat.{ℕ, ◌+◌, ◌%◌, ◌≤◌}
+use Prim.Native.Nat.{ℕ, ◌+◌, ◌≤◌}
 use native.Mathlib.Omega.{arith}
-use mathlib.Core.Path.{◌≡◌, refl, ap, ◌∙◌}
-use mathlib.Core.Bool.{true, false}
+use mathlib.Core.Path.{◌≡◌, refl}
+use mathlib.Core.Bool.{true}
 use mathlib.Core.List.{List}
 use lib.ListN.{length}
-use borrow.Author.Tests.{eq-eqb, ne_eqb}
-use Rattle.codec.specs.Question.{none, Values, Outcome, done, refused, map_outcome}
+use Rattle.codec.specs.Question.{none, Values, Outcome, done, refused}
 use Rattle.codec.specs.Records.{records_of, bytes_of, refcounts}
 use Rattle.codec.specs.Accepted.{whole}
 use Rattle.codec.specs.Refcounts.{accepted}
 use Rattle.codec.specs.declared.refcount.Refcount.{Refcount}
-use Rattle.lists.specs.declared.Lengths.{Lengths}
 use Rattle.lists.specs.Extent.{good_extent}
 use Rattle.lists.specs.Release.{clear}
 use Rattle.lists.specs.Raise.{raise, owners_fit, raise_outcome, Raisable}
-use Rattle.lists.specs.Answer.{length_of, lengths_of}
-use Rattle.lists.specs.Steps.{measure_outcome}
-use Rattle.lists.specs.Inner.Passes.{pass_outcome}
+use Rattle.lists.specs.Answer.{length_of}
 use Rattle.lists.proofs.Cases.{split}
 use Rattle.lists.proofs.Staged.{good-end}
 
 module _ (b : List ℕ) (start count : ℕ) where
   abbrev l : List Refcount
   l = records_of refcounts b
-
-  -- the length of the counts alone
-  abbrev first : Outcome Lengths → Outcome ℕ
-  first o = map_outcome (λ n. n.counts) o
-
-  pub raise-length : (length b % 12 ≡ 0 → ⊥) → refused 19 none ≡ length_of refcounts (raise_outcome b start count)
-  unfolding raise_outcome whole
-  raise-length h = rw (ne_eqb (length b % 12) 0 h) refl
-
-  -- an extent that is not good is refused as a release refuses it
-  pub raise-extent : (o : Outcome Lengths) → good_extent start count ≡ false → o ≡ lengths_of (measure_outcome b start count) → first o ≡ length_of refcounts (raise_outcome b start count)
-  unfolding measure_outcome raise_outcome
-  raise-extent o g e =
-      ap first e ∙ split (whole 12 b) (λ p. split (accepted l) (λ q. rw (p, q, g) refl) (λ q. rw (p, q) refl)) (λ p. rw p refl)
-
-  pub raise-pass : (o : Outcome Lengths) → length b % 12 ≡ 0 → good_extent start count ≡ true → o ≡ lengths_of (pass_outcome true l start count) → first o ≡ length_of refcounts (raise_outcome b start count)
-  unfolding pass_outcome raise_outcome whole
-  raise-pass o h g e =
-      ap first e
-      ∙ rw (eq-eqb (length b % 12) 0 h, g)
-      (split (accepted l)
-      (λ q. split (clear start (start + count) l)
-      (λ k. split (owners_fit start (start + count) l) (λ f. rw (q, k, f) refl) (λ f. rw (q, k, f) refl))
-      (λ k. rw (q, k) refl))
-      (λ q. rw q refl))
 
   -- ---- what the first step said
 

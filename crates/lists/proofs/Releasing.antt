@@ -1,64 +1,33 @@
 -- The exits of a release, in the order of its questions.
 -- Assumes nothing.
-use Prim.Native.Nat.{ℕ, ◌+◌, ◌%◌, ◌^◌, ◌≤◌, ◌<◌}
+use Prim.Native.Nat.{ℕ, ◌+◌, ◌^◌, ◌≤◌, ◌<◌}
 use native.Mathlib.Omega.{arith}
-use mathlib.Core.Path.{◌≡◌, refl, ap, ◌∙◌}
-use mathlib.Core.Bool.{Bool, true, false, cond, ◌&&◌, and-false}
+use mathlib.Core.Path.{◌≡◌, refl, ap}
+use mathlib.Core.Bool.{true, false, cond, ◌&&◌, and-false}
 use mathlib.Core.List.{List}
 use lib.Dec.{ltb, leb}
 use lib.ListN.{length}
-use borrow.Author.Tests.{le-leb, lt-leb, eq-eqb, ne_eqb}
+use borrow.Author.Tests.{le-leb, lt-leb}
 use Rattle.codec.specs.Bytes.{with_bytes}
 use Rattle.codec.specs.Question.{none, Outcome, done, refused}
 use Rattle.codec.specs.Records.{records_of, bytes_of, refcounts, free_extents}
 use Rattle.codec.specs.Accepted.{whole}
-use Rattle.codec.specs.Refcounts.{accepted, check_order}
+use Rattle.codec.specs.Refcounts.{accepted}
 use Rattle.codec.specs.declared.refcount.Refcount.{Refcount}
 use Rattle.lists.specs.declared.EditRefusal.{EditRefusal}
 use Rattle.lists.specs.declared.EditRefusal.TheVariants as why
 use Rattle.lists.specs.declared.Lengths.{Lengths}
-use Rattle.lists.specs.declared.Released.{Released}
-use Rattle.lists.specs.declared.Released.TheVariants as released
+use Rattle.std.specs.Prelude.{Result, Ok, Err}
 use Rattle.lists.specs.Extent.{good_extent}
 use Rattle.lists.specs.Release.{clear, release, unshared}
 use Rattle.lists.specs.Edits.{Freed, fits, release_outcome, written, freed}
 use Rattle.lists.specs.Answer.{released_outcome, lengths_of, ReleaseIs}
 use Rattle.lists.specs.Steps.{measure_outcome, Writable}
-use Rattle.lists.specs.Inner.Passes.{pass_outcome}
 use Rattle.lists.proofs.Cases.{split, tests, conj}
 
 module _ (b : List ℕ) (start count : ℕ) where
   abbrev l : List Refcount
   l = records_of refcounts b
-
-  -- ---- the first step
-
-  pub measure-length : (length b % 12 ≡ 0 → ⊥) → refused 19 none ≡ lengths_of (measure_outcome b start count)
-  unfolding measure_outcome whole
-  measure-length h = rw (ne_eqb (length b % 12) 0 h) refl
-
-  pub measure-pass : (o : Outcome Lengths) → length b % 12 ≡ 0 → good_extent start count ≡ true → o ≡ lengths_of (pass_outcome false l start count) → o ≡ lengths_of (measure_outcome b start count)
-  unfolding measure_outcome pass_outcome whole
-  measure-pass o h g e = e ∙ rw (eq-eqb (length b % 12) 0 h, g) refl
-
-  module _ (g : good_extent start count ≡ false) where
-    pub measure-list : (n : ℕ) → refused n none ≡ check_order b → refused n none ≡ lengths_of (measure_outcome b start count)
-    unfolding measure_outcome check_order
-    measure-list n e = go (whole 12 b) (accepted l) refl refl
-      where
-        go : (t u : Bool) → whole 12 b ≡ t → accepted l ≡ u → refused n none ≡ lengths_of (measure_outcome b start count)
-        go false u p q = let k : n ≡ 19 = (let f : ◌≡◌ {A = Outcome ℕ} (refused n none) (refused 19 none) = rw p at e in cc) in rw (p, k) refl
-        go true false p q = let k : n ≡ 21 = (let f : ◌≡◌ {A = Outcome ℕ} (refused n none) (refused 21 none) = rw (p, q) at e in cc) in rw (p, q, k) refl
-        go true true p q = let f : ◌≡◌ {A = Outcome ℕ} (refused n none) (done _) = rw (p, q) at e in cc
-
-    pub measure-extent : (n : ℕ) → done n ≡ check_order b → refused 22 none ≡ lengths_of (measure_outcome b start count)
-    unfolding measure_outcome check_order
-    measure-extent n e = go (whole 12 b) (accepted l) refl refl
-      where
-        go : (t u : Bool) → whole 12 b ≡ t → accepted l ≡ u → refused 22 none ≡ lengths_of (measure_outcome b start count)
-        go false u p q = let f : ◌≡◌ {A = Outcome ℕ} (done n) (refused 19 none) = rw p at e in cc
-        go true false p q = let f : ◌≡◌ {A = Outcome ℕ} (done n) (refused 21 none) = rw (p, q) at e in cc
-        go true true p q = rw (p, q, g) refl
 
   -- ---- 26
 
@@ -81,21 +50,21 @@ module _ (b : List ℕ) (start count : ℕ) where
     abbrev outcome : Outcome Freed
     outcome = release_outcome b start count (length new) (length free)
 
-    abbrev pub Tells : Released → (new' free' : List ℕ) → Type 0
+    abbrev pub Tells : Result Lengths EditRefusal → (new' free' : List ℕ) → Type 0
     Tells r new' free' = ReleaseIs outcome r new new' free free'
 
-    by-fitted : (r : Released) (new' free' : List ℕ) → ReleaseIs (fitted (measure_outcome b start count) (length new) (length free)) r new new' free free' → Tells r new' free'
+    by-fitted : (r : Result Lengths EditRefusal) (new' free' : List ℕ) → ReleaseIs (fitted (measure_outcome b start count) (length new) (length free)) r new new' free free' → Tells r new' free'
     by-fitted r new' free' h = rw (release-fitted (length new) (length free)) h
 
-    pub tells-refused : (q : EditRefusal) → released_outcome (released.Refused q) ≡ lengths_of (measure_outcome b start count) → Tells (released.Refused q) new free
+    pub tells-refused : (q : EditRefusal) → released_outcome (Err q) ≡ lengths_of (measure_outcome b start count) → Tells (Err q) new free
     unfolding written
-    tells-refused q e = by-fitted (released.Refused q) new free (go (measure_outcome b start count) e)
+    tells-refused q e = by-fitted (Err q) new free (go (measure_outcome b start count) e)
       where
-        go : (o : Outcome Freed) → released_outcome (released.Refused q) ≡ lengths_of o → ReleaseIs (fitted o (length new) (length free)) (released.Refused q) new new free free
+        go : (o : Outcome Freed) → released_outcome (Err q) ≡ lengths_of o → ReleaseIs (fitted o (length new) (length free)) (Err q) new new free free
         go (refused n v) e = record { said = e; counts = refl; extents = refl }
         go (done f) e = absurd (let y : ◌≡◌ {A = ℕ} 0 1 = cc in omega arith)
 
-    module _ (m : Lengths) (e : released_outcome (released.Done m) ≡ lengths_of (measure_outcome b start count)) where
+    module _ (m : Lengths) (e : released_outcome (Ok m) ≡ lengths_of (measure_outcome b start count)) where
       -- all questions of the first step hold
       held : (accepted l ≡ true) × (good_extent start count ≡ true) × (clear start (start + count) l ≡ true) × (measure_outcome b start count ≡ done (freed l start count))
       unfolding measure_outcome
@@ -129,24 +98,24 @@ module _ (b : List ℕ) (start count : ℕ) where
           let u : leb (start + count) (2 ^ 31) ≡ true = search conj in
           record { end = omega tests; accepted = held.0; clear = held.2; counts = omega (arith, lengths.0); free = omega (arith, lengths.1) }
 
-      tells-room : (leb m.counts (length new) && leb m.free (length free)) ≡ false → Tells (released.Refused why.Room) new free
+      tells-room : (leb m.counts (length new) && leb m.free (length free)) ≡ false → Tells (Err why.Room) new free
       unfolding written
       tells-room h =
           let t : (leb (length (bytes_of refcounts (release start (start + count) l))) (length new) && leb (length (bytes_of free_extents (unshared l start count))) (length free)) ≡ false =
           rw (← lengths.0, ← lengths.1) h in
-          by-fitted (released.Refused why.Room) new free (rw (measured, t) (record { said = refl; counts = refl; extents = refl }))
+          by-fitted (Err why.Room) new free (rw (measured, t) (record { said = refl; counts = refl; extents = refl }))
 
-      pub tells-short : length new < m.counts → Tells (released.Refused why.Room) new free
+      pub tells-short : length new < m.counts → Tells (Err why.Room) new free
       tells-short h = tells-room (rw (lt-leb m.counts (length new) h) refl)
 
-      pub tells-short-free : length free < m.free → Tells (released.Refused why.Room) new free
+      pub tells-short-free : length free < m.free → Tells (Err why.Room) new free
       tells-short-free h = tells-room (rw (lt-leb m.free (length free) h) (and-false (leb m.counts (length new))))
 
       pub tells-done : m.counts ≤ length new → m.free ≤ length free → (new' free' : List ℕ)
           → new' ≡ with_bytes new 0 (bytes_of refcounts (release start (start + count) l))
           → free' ≡ with_bytes free 0 (bytes_of free_extents (unshared l start count))
-          → Tells (released.Done m) new' free'
+          → Tells (Ok m) new' free'
       unfolding written
       tells-done h k new' free' p q =
-          by-fitted (released.Done m) new' free'
+          by-fitted (Ok m) new' free'
           (rw (measured, le-leb _ (length new) (rw lengths.0 at h), le-leb _ (length free) (rw lengths.1 at k)) (record { said = rw measured at e; counts = p; extents = q }))

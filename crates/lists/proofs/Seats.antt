@@ -16,7 +16,7 @@ use Rattle.lists.proofs.Index.{index-first, index-passes}
 use Rattle.lists.proofs.RmapOrder.{le_trans, Accepted, ascending, After, Acc, acc-replace, acc-nothing, not-before-le, le-not-before}
 
 -- a record at a lower index stands before what a later one stands before
-below : (z : Rmap) (l : List Rmap) (i j : ℕ) → Accepted l → i ≤ j → j < length l → before (get_or l i least) z ≡ false → before (get_or l j least) z ≡ false
+pub below : (z : Rmap) (l : List Rmap) (i j : ℕ) → Accepted l → i ≤ j → j < length l → before (get_or l i least) z ≡ false → before (get_or l j least) z ≡ false
 below z l i j acc h k e =
     split (ltb i j)
     (λ f. le-not-before z (get_or l j least) (le_trans (not-before-le z (get_or l i least) e) (ascending 0 0 0 least l i j acc (omega tests) k)))

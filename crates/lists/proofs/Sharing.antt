@@ -11,7 +11,7 @@ use lib.ListN.{length, get_or, take, drop, length-drop}
 use lib.Seq.{drop-drop}
 use Rattle.codec.specs.Rmaps.{end, before, follows, least}
 use Rattle.codec.specs.declared.rmap.Rmap.{Rmap}
-use Rattle.lists.specs.declared.findings.Joined.{Joined}
+use Rattle.std.specs.Prelude.{Some, is_some, unwrap_or}
 use Rattle.lists.specs.RmapEdits.{index_where, first, replace, nothing, place, continues, joined, attach, insert, behind, ahead, share_before, share_after, insert_shared}
 use Rattle.lists.specs.Splice.{between}
 use Rattle.lists.specs.Inner.Searches.{seat}
@@ -22,22 +22,22 @@ use Rattle.lists.proofs.Index.{index-le, index-passes, index_same, index-drop, f
 use Rattle.lists.proofs.RmapOrder.{by_start, by_offset, Accepted, each, ascending, le-start, le-not-before}
 use Rattle.lists.proofs.Inserting.{after, insert-at, insert-front}
 use Rattle.lists.proofs.Seats.{seat-at, place_out}
-use Rattle.lists.proofs.Joining.{low_join, high_join, join-out, join-hit, attach-high, attach-low, continues-joined}
+use Rattle.lists.proofs.Joining.{low_join, high_join, low_of, high_of, join-out, join-hit, attach-high, attach-low, continues-joined}
 
 -- ---- insert
 
 pub insert-is : (x : Rmap) (l : List Rmap) (at : ℕ) → at ≡ after x l
     → insert x l
-    ≡ take (cond (low_join l (previous at (length l)) (high_join l at x).rmap).joins (previous at (length l)) at) l
-    ++ ((low_join l (previous at (length l)) (high_join l at x).rmap).rmap ∷ drop (cond (high_join l at x).joins (suc at) at) l)
+    ≡ take (cond (is_some (low_join l (previous at (length l)) (high_of l at x))) (previous at (length l)) at) l
+    ++ (low_of l (previous at (length l)) (high_of l at x) ∷ drop (cond (is_some (high_join l at x)) (suc at) at) l)
 unfolding previous
 insert-is x l zero e =
-    insert-front x l (sym e) ∙ attach-high x l 0 (omega arith) ∙ rw (← join-out true l (length l) (high_join l 0 x).rmap (omega arith)) refl
+    insert-front x l (sym e) ∙ attach-high x l 0 (omega arith) ∙ rw (← join-out true l (length l) (high_of l 0 x) (omega arith)) refl
 insert-is x l (suc k) e =
     let le : suc k ≤ length l = omega (arith, index-le (λ r. ltb x.startblock r.startblock) l) in
     insert-at x l k (sym e)
     ∙ ap (λ (m : List Rmap). take k l ++ attach (get_or l k least) m) (attach-high x l (suc k) le)
-    ∙ attach-low l k (high_join l (suc k) x).rmap (drop (cond (high_join l (suc k) x).joins (suc (suc k)) (suc k)) l) (omega arith)
+    ∙ attach-low l k (high_of l (suc k) x) (drop (cond (is_some (high_join l (suc k) x)) (suc (suc k)) (suc k)) l) (omega arith)
 
 -- ---- insert_shared
 
@@ -49,20 +49,20 @@ abbrev pub high_index : Rmap → List Rmap → ℕ
 high_index y l = index_where (λ r. continues y r) l
 
 -- the first found, joined to x, is the join by index
-pub low-found : (l : List Rmap) (x : Rmap) → low_index x l < length l → record { rmap = joined (get_or l (low_index x l) least) x; joins = true } ≡ low_join l (low_index x l) x
+pub low-found : (l : List Rmap) (x : Rmap) → low_index x l < length l → Some (joined (get_or l (low_index x l) least) x) ≡ low_join l (low_index x l) x
 low-found l x h = join-hit true l (low_index x l) x (get_or l (low_index x l) least) h refl (index-passes (λ r. continues r x) l h)
 
-pub high-found : (l : List Rmap) (y : Rmap) → high_index y l < length l → record { rmap = joined y (get_or l (high_index y l) least); joins = true } ≡ high_join l (high_index y l) y
+pub high-found : (l : List Rmap) (y : Rmap) → high_index y l < length l → Some (joined y (get_or l (high_index y l) least)) ≡ high_join l (high_index y l) y
 high-found l y h = join-hit false l (high_index y l) y (get_or l (high_index y l) least) h refl (index-passes (λ r. continues y r) l h)
 
-ahead-is : (l : List Rmap) (y : Rmap) → ahead (first (continues y) l) y ≡ (high_join l (high_index y l) y).rmap
+ahead-is : (l : List Rmap) (y : Rmap) → ahead (first (continues y) l) y ≡ high_of l (high_index y l) y
 unfolding ahead
 ahead-is l y =
     split (ltb (high_index y l) (length l))
     (λ e. let h : high_index y l < length l = omega tests in rw (first_some (continues y) l h, ← high-found l y h) refl)
     (λ e. let h : length l ≤ high_index y l = omega tests in rw (first-none (continues y) l h, ← join-out false l (high_index y l) y h) refl)
 
-behind-is : (l : List Rmap) (x : Rmap) → behind (first (λ r. continues r x) l) x ≡ (low_join l (low_index x l) x).rmap
+behind-is : (l : List Rmap) (x : Rmap) → behind (first (λ r. continues r x) l) x ≡ low_of l (low_index x l) x
 unfolding behind
 behind-is l x =
     split (ltb (low_index x l) (length l))
@@ -71,7 +71,7 @@ behind-is l x =
 
 -- the join before a record keeps the key
 high-key : (l : List Rmap) (i : ℕ) (y : Rmap)
-    → ((high_join l i y).rmap.startblock ≡ y.startblock) × ((high_join l i y).rmap.owner ≡ y.owner) × ((high_join l i y).rmap.offset ≡ y.offset)
+    → ((high_of l i y).startblock ≡ y.startblock) × ((high_of l i y).owner ≡ y.owner) × ((high_of l i y).offset ≡ y.offset)
 unfolding join_at
 high-key l i y = split (ltb i (length l) && continues y (get_or l i least)) (λ e. rw e (refl, refl, refl)) (λ e. rw e (refl, refl, refl))
 
@@ -102,7 +102,7 @@ module _ (x : Rmap) (l : List Rmap) (acc : Accepted l) (i : ℕ) (ei : i ≡ low
   j = high_index y l
 
   abbrev z : Rmap
-  z = (high_join l j y).rmap
+  z = high_of l j y
 
   pos : 0 < y.blockcount
   pos = omega (arith, (each least l i acc hi).0.0)
@@ -137,7 +137,7 @@ module _ (x : Rmap) (l : List Rmap) (acc : Accepted l) (i : ℕ) (ei : i ≡ low
   share-joined =
       let p : ℕ = seat z l in
       let m : List Rmap = replace (λ r. continues r x) nothing l in
-      let low : share_before x l ≡ y = behind-is l x ∙ ap (λ (w : Joined). w.rmap) (sym (low-found l x (rw ei at hi))) ∙ rw (← ei) refl in
+      let low : share_before x l ≡ y = behind-is l x ∙ ap (λ o. unwrap_or o x) (sym (low-found l x (rw ei at hi))) ∙ rw (← ei) refl in
       let lt : low_index x l < j = rw (← ei) low-before-high in
       let high : ahead (first (continues y) m) y ≡ z = ap (λ (o : Option Rmap). ahead o y) (first_out (continues y) (λ r. continues r x) l lt) ∙ ahead-is l y in
       let fits : p ≤ low_index x l = rw (← ei) seat-before-low in
@@ -157,7 +157,7 @@ module _ (x : Rmap) (l : List Rmap) (acc : Accepted l) (gx : 0 < x.blockcount) (
   j₀ = high_index x l
 
   abbrev z₀ : Rmap
-  z₀ = (high_join l j₀ x).rmap
+  z₀ = high_of l j₀ x
 
   pub seat-before-high : seat z₀ l ≤ j₀
   seat-before-high =
@@ -171,7 +171,7 @@ module _ (x : Rmap) (l : List Rmap) (acc : Accepted l) (gx : 0 < x.blockcount) (
       let p : ℕ = seat z₀ l in
       let m : List Rmap = replace (λ r. continues r x) nothing l in
       let le : p ≤ length l = index-le (follows z₀) l in
-      let low : share_before x l ≡ x = behind-is l x ∙ ap (λ (w : Joined). w.rmap) (sym (join-out true l (low_index x l) x hi)) in
+      let low : share_before x l ≡ x = behind-is l x ∙ ap (λ o. unwrap_or o x) (sym (join-out true l (low_index x l) x hi)) in
       let same : m ≡ l = replace-none (λ r. continues r x) nothing l (first-none (λ r. continues r x) l hi) in
       let dq : low_index x (drop p l) ≡ low_index x l - p = index-drop (λ r. continues r x) l p (omega arith) in
       let dp : high_index x (drop p l) ≡ j₀ - p = index-drop (continues x) l p seat-before-high in

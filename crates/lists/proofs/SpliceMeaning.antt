@@ -11,7 +11,7 @@ use Rattle.codec.specs.declared.rmap.Rmap.{Rmap}
 use Rattle.lists.specs.declared.EditRefusal.{EditRefusal}
 use Rattle.lists.specs.declared.splice.Edit.{Edit}
 use Rattle.lists.specs.declared.splice.Splice.{Splice}
-use Rattle.lists.specs.declared.splice.Prepared.TheVariants.{Refused, Ready}
+use Rattle.std.specs.Prelude.{Ok, Err}
 use Rattle.lists.specs.Edits.{edited, edit_questions}
 use Rattle.lists.specs.Answer.{edit_number}
 use Rattle.lists.specs.Splice.{edit_before26, list_of, PreparedIs, prepared_outcome}
@@ -33,7 +33,7 @@ module _ {A B : Type 0} (ts : List Question) (o : Outcome B) where
 
 module _ {B : Type 0} (e : Edit) (b : List ℕ) (x : Rmap) (ts : List Question) (o : Outcome B) where
   -- a refused edit is the refusal of whatever is asked after it
-  pub refused-means : (q : EditRefusal) → PreparedIs e b x (Refused q) → answer (edit_questions e b x ++ ts) o ≡ refused (edit_number q) none
+  pub refused-means : (q : EditRefusal) → PreparedIs e b x (Err q) → answer (edit_questions e b x ++ ts) o ≡ refused (edit_number q) none
   unfolding prepared_outcome edit_before26
   refused-means q h = refused-before ts o (edit_questions e b x) (edited e x (records_of rmaps b)) (edit_number q) none h.0
 
@@ -43,7 +43,7 @@ module _ {B : Type 0} (e : Edit) (b : List ℕ) (x : Rmap) (ts : List Question) 
     pub list : list_of (records_of rmaps b) p ≡ edited e x (records_of rmaps b)
     pub size : p.size ≡ length (bytes_of rmaps (edited e x (records_of rmaps b)))
 
-  pub ready-means : (p : Splice) → PreparedIs e b x (Ready p) → Means p
+  pub ready-means : (p : Splice) → PreparedIs e b x (Ok p) → Means p
   unfolding prepared_outcome edit_before26
   ready-means p h =
       let k = done-before ts o (edit_questions e b x) (edited e x (records_of rmaps b)) (list_of (records_of rmaps b) p) h.0 in

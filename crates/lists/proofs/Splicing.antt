@@ -19,11 +19,12 @@ use Rattle.codec.specs.declared.rmap.Rmap.{Rmap}
 use Rattle.lists.specs.declared.EditRefusal.TheVariants as why
 use Rattle.lists.specs.declared.splice.Edit.{Edit}
 use Rattle.lists.specs.declared.splice.Edit.TheVariants.{Insert, InsertShared, Remove}
-use Rattle.lists.specs.declared.findings.Joined.{Joined}
+use Rattle.std.specs.Prelude.{Option, Some, None, is_some, unwrap_or}
+use Rattle.std.specs.Bool.{then_some}
 use Rattle.lists.specs.RmapEdits.{index_where, insert, insert_shared, contained, remove, continues, joined, chosen, front, later}
 use Rattle.lists.specs.Edits.{map_questions, fits, insert_outcome, insert_shared_outcome, remove_outcome, allowed, edited, edit_questions}
 use Rattle.lists.specs.Answer.{edit_number}
-use Rattle.lists.specs.Splice.{edit_before26, between, parts_of, PartsGood}
+use Rattle.lists.specs.Splice.{edit_before26, between, piece_of, parts_of, PartsGood}
 use Rattle.lists.specs.Inner.Searches.{seat, TakeGood}
 use Rattle.lists.specs.Inner.Splicing.{edit_outcome, previous, roomed}
 use Rattle.lists.proofs.Cases.{split, tests}
@@ -91,45 +92,35 @@ unfolding previous
 previous-is zero n i e h = absurd (omega arith)
 previous-is (suc k) n i e h = omega arith
 
-pub previous-zero : (at n : ℕ) → at ≡ 0 → n ≡ previous at n
-unfolding previous
-previous-zero zero n e = refl
-previous-zero (suc k) n e = absurd (omega arith)
-
-pub previous-some : (at n : ℕ) → (at ≡ 0 → ⊥) → at - 1 ≡ previous at n
-unfolding previous
-previous-some zero n e = absurd (e refl)
-previous-some (suc k) n e = omega arith
-
-module _ (x : Rmap) (l : List Rmap) (n : ℕ) (en : n ≡ length l) (at i a z : ℕ) (h j : Joined) (ea : at ≡ after x l) (eh : h ≡ high_join l at x) (ei : i ≡ previous at n)
-    (ej : j ≡ low_join l i h.rmap) (e₁ : a ≡ cond j.joins i at) (e₂ : z ≡ cond h.joins (at + 1) at) where
+module _ (x : Rmap) (l : List Rmap) (n : ℕ) (en : n ≡ length l) (at i a z : ℕ) (h j : Option Rmap) (y w : Rmap) (ea : at ≡ after x l) (eh : h ≡ high_join l at x)
+    (ey : y ≡ unwrap_or h x) (ei : i ≡ previous at n) (ej : j ≡ low_join l i y) (ew : w ≡ unwrap_or j y) (e₁ : a ≡ cond (is_some j) i at) (e₂ : z ≡ cond (is_some h) (at + 1) at) where
   at-le : at ≤ n
   at-le = omega (arith, index-le (λ r. ltb x.startblock r.startblock) l)
 
   front-le : a ≤ at
   front-le =
-      split j.joins
-      (λ t. let k : i < length l = join-in true l i h.rmap (ap (λ (w : Joined). w.joins) (sym ej) ∙ t) in
+      split (is_some j)
+      (λ t. let k : i < length l = join-in true l i y (ap (λ o. is_some o) (sym ej) ∙ t) in
       let s = previous-is at n i ei (omega arith) in
       let f : a ≡ i = rw t at e₁ in omega arith)
       (λ t. let f : a ≡ at = rw t at e₁ in omega arith)
 
   rest_le : (at ≤ z) × (z ≤ n)
   rest_le =
-      split h.joins
-      (λ t. let k : at < length l = join-in false l at x (ap (λ (w : Joined). w.joins) (sym eh) ∙ t) in
+      split (is_some h)
+      (λ t. let k : at < length l = join-in false l at x (ap (λ o. is_some o) (sym eh) ∙ t) in
       let f : z ≡ at + 1 = rw t at e₂ in (omega arith, omega arith))
       (λ t. let f : z ≡ at = rw t at e₂ in (omega arith, omega (arith, at-le)))
 
-  pub insert-parts : (s : Rmap) → insert x l ≡ parts_of l a (record { some = true; rmap = j.rmap; from = at; to = at }) (record { some = false; rmap = s; from = at; to = at }) z
+  pub insert-parts : insert x l ≡ parts_of l a (record { rmap = Some w; from = at; to = at }) (record { rmap = None; from = at; to = at }) z
   unfolding parts_of
-  insert-parts s =
-      let f : z ≡ cond h.joins (suc at) at = e₂ ∙ rw (add-one at) refl in
-      let whole : insert x l ≡ take a l ++ (j.rmap ∷ drop z l) = rw (e₁, f, ej, eh, ei, en) (insert-is x l at ea) in
+  insert-parts =
+      let f : z ≡ cond (is_some h) (suc at) at = e₂ ∙ rw (add-one at) refl in
+      let whole : insert x l ≡ take a l ++ (w ∷ drop z l) = rw (e₁, f, ew, ej, ey, eh, ei, en) (insert-is x l at ea) in
       whole ∙ rw (between_none l at) (simp (append_assoc, append-nil))
 
-  pub insert-good : (s : Rmap) → PartsGood n a (record { some = true; rmap = j.rmap; from = at; to = at }) (record { some = false; rmap = s; from = at; to = at }) z
-  insert-good s =
+  pub insert-good : PartsGood n a (record { rmap = Some w; from = at; to = at }) (record { rmap = None; from = at; to = at }) z
+  insert-good =
       let k = front-le in
       let r = rest_le in
       record { front = omega (arith, at-le); first = (omega arith, at-le); second = (omega arith, at-le); rest = r.1; count = omega (arith, at-le) }
@@ -137,7 +128,7 @@ module _ (x : Rmap) (l : List Rmap) (n : ℕ) (en : n ≡ length l) (at i a z : 
 -- ---- insert_shared
 
 -- what follows the record joined behind
-rest-drop : (l : List Rmap) (y : Rmap) (j : ℕ) → j ≡ high_index y l → drop (cond (high_join l j y).joins (j + 1) j) l ≡ drop (j + 1) l
+rest-drop : (l : List Rmap) (y : Rmap) (j : ℕ) → j ≡ high_index y l → drop (cond (is_some (high_join l j y)) (j + 1) j) l ≡ drop (j + 1) l
 rest-drop l y j e =
     split (ltb j (length l))
     (λ f. let h : high_index y l < length l = omega tests in rw (e, ← high-found l y h) refl)
@@ -145,23 +136,23 @@ rest-drop l y j e =
     let k : length l ≤ j + 1 = omega arith in
     rw (← join-out false l j y h) (drop_of_length-le l h ∙ sym (drop_of_length-le l k)))
 
-module _ (b : List ℕ) (x : Rmap) (g : TakeGood b x) (n : ℕ) (en : n ≡ length (records_of rmaps b)) (i j p low mid z : ℕ) (t h : Joined)
-    (ei : i ≡ low_index x (records_of rmaps b)) (et : t ≡ low_join (records_of rmaps b) i x) (ej : j ≡ high_index x (records_of rmaps b))
-    (eh : h ≡ high_join (records_of rmaps b) j t.rmap) (ep : p ≡ seat h.rmap (records_of rmaps b))
-    (e₁ : low ≡ cond t.joins i p) (e₂ : mid ≡ cond t.joins (i + 1) p) (e₃ : z ≡ cond h.joins (j + 1) j) where
+module _ (b : List ℕ) (x : Rmap) (g : TakeGood b x) (n : ℕ) (en : n ≡ length (records_of rmaps b)) (i j p low mid z : ℕ) (t h : Option Rmap) (y w : Rmap)
+    (ei : i ≡ low_index x (records_of rmaps b)) (et : t ≡ low_join (records_of rmaps b) i x) (ey : y ≡ unwrap_or t x) (ej : j ≡ high_index x (records_of rmaps b))
+    (eh : h ≡ high_join (records_of rmaps b) j y) (ew : w ≡ unwrap_or h y) (ep : p ≡ seat w (records_of rmaps b))
+    (e₁ : low ≡ cond (is_some t) i p) (e₂ : mid ≡ cond (is_some t) (i + 1) p) (e₃ : z ≡ cond (is_some h) (j + 1) j) where
   abbrev rs : List Rmap
   rs = records_of rmaps b
 
   shared-rest : (j ≤ z) × (z ≤ n)
   shared-rest =
-      split h.joins
-      (λ t. let k : j < length rs = join-in false rs j _ (ap (λ (w : Joined). w.joins) (sym eh) ∙ t) in
+      split (is_some h)
+      (λ t. let k : j < length rs = join-in false rs j _ (ap (λ o. is_some o) (sym eh) ∙ t) in
       let f : z ≡ j + 1 = rw t at e₃ in (omega arith, omega arith))
       (λ t. let f : z ≡ j = rw t at e₃ in (omega arith, omega (arith, index-le (λ r. continues x r) rs)))
 
   -- what the two cases have in common
   record Shared : Type 0 where
-    list : insert_shared x rs ≡ take p rs ++ (h.rmap ∷ (between rs p low ++ between rs mid j ++ drop z rs))
+    list : insert_shared x rs ≡ take p rs ++ (w ∷ (between rs p low ++ between rs mid j ++ drop z rs))
     seat-low : p ≤ low
     low-mid : low ≤ mid
     mid-high : mid ≤ j
@@ -173,43 +164,43 @@ module _ (b : List ℕ) (x : Rmap) (g : TakeGood b x) (n : ℕ) (en : n ≡ leng
       split (ltb i (length rs))
       (λ e.
       let hi : i < length rs = omega tests in
-      let is : t ≡ record { rmap = joined (get_or rs i least) x; joins = true } = et ∙ rw ei (sym (low-found rs x (rw ei at hi))) in
-      let js : t.joins ≡ true = ap (λ (w : Joined). w.joins) is in
-      let ey : t.rmap ≡ joined (get_or rs i least) x = ap (λ (w : Joined). w.rmap) is in
+      let is : t ≡ Some (joined (get_or rs i least) x) = et ∙ rw ei (sym (low-found rs x (rw ei at hi))) in
+      let js : is_some t ≡ true = rw is refl in
+      let ey : y ≡ joined (get_or rs i least) x = ey ∙ rw is refl in
       let lo : low ≡ i = e₁ ∙ rw js refl in
       let mi : mid ≡ i + 1 = e₂ ∙ rw js refl in
-      let jy : j ≡ high_index t.rmap rs = ej ∙ rw ey (high_same x rs acc i ei hi) in
-      let rest : drop z rs ≡ drop (j + 1) rs = rw (e₃, eh) (rest-drop rs t.rmap j jy) in
-      let up : p ≤ i = rw (ep, eh, jy, ey) (seat-before-low x rs acc i ei hi) in
+      let jy : j ≡ high_index y rs = ej ∙ rw ey (high_same x rs acc i ei hi) in
+      let rest : drop z rs ≡ drop (j + 1) rs = rw (e₃, eh) (rest-drop rs y j jy) in
+      let up : p ≤ i = rw (ep, ew, eh, jy, ey) (seat-before-low x rs acc i ei hi) in
       let lt : i < j = rw (jy, ey) (low-before-high x rs acc i ei hi) in
       record {
-        list = rw (lo, mi, rest, ep, eh, jy, ey) (share-joined x rs acc i ei hi);
+        list = rw (lo, mi, rest, ep, ew, eh, jy, ey) (share-joined x rs acc i ei hi);
         seat-low = omega arith;
         low-mid = omega arith;
         mid-high = omega arith;
       })
       (λ e.
       let hi : length rs ≤ i = omega tests in
-      let is : t ≡ record { rmap = x; joins = false } = et ∙ sym (join-out true rs i x hi) in
-      let js : t.joins ≡ false = ap (λ (w : Joined). w.joins) is in
-      let ey : t.rmap ≡ x = ap (λ (w : Joined). w.rmap) is in
+      let is : t ≡ None = et ∙ sym (join-out true rs i x hi) in
+      let js : is_some t ≡ false = rw is refl in
+      let ey : y ≡ x = ey ∙ rw is refl in
       let lo : low ≡ p = e₁ ∙ rw js refl in
       let mi : mid ≡ p = e₂ ∙ rw js refl in
-      let rest : drop z rs ≡ drop (j + 1) rs = rw (e₃, eh) (rest-drop rs t.rmap j (ej ∙ rw ey refl)) in
-      let up : p ≤ j = rw (ep, eh, ej, ey) (seat-before-high x rs acc pos (rw ei at hi)) in
+      let rest : drop z rs ≡ drop (j + 1) rs = rw (e₃, eh) (rest-drop rs y j (ej ∙ rw ey refl)) in
+      let up : p ≤ j = rw (ep, ew, eh, ej, ey) (seat-before-high x rs acc pos (rw ei at hi)) in
       record {
-        list = rw (lo, mi, between_none rs p, rest, ep, eh, ej, ey) (share-alone x rs acc pos (rw ei at hi));
+        list = rw (lo, mi, between_none rs p, rest, ep, ew, eh, ej, ey) (share-alone x rs acc pos (rw ei at hi));
         seat-low = omega arith;
         low-mid = omega arith;
         mid-high = omega arith;
       })
 
-  pub shared-parts : (s : Rmap) → insert_shared x rs ≡ parts_of rs p (record { some = true; rmap = h.rmap; from = p; to = low }) (record { some = false; rmap = s; from = mid; to = j }) z
+  pub shared-parts : insert_shared x rs ≡ parts_of rs p (record { rmap = Some w; from = p; to = low }) (record { rmap = None; from = mid; to = j }) z
   unfolding parts_of
-  shared-parts s = shared.list ∙ simp append_assoc
+  shared-parts = shared.list ∙ simp append_assoc
 
-  pub shared-good : (s : Rmap) → PartsGood n p (record { some = true; rmap = h.rmap; from = p; to = low }) (record { some = false; rmap = s; from = mid; to = j }) z
-  shared-good s =
+  pub shared-good : PartsGood n p (record { rmap = Some w; from = p; to = low }) (record { rmap = None; from = mid; to = j }) z
+  shared-good =
       let a = shared.seat-low in
       let b = shared.low-mid in
       let c = shared.mid-high in
@@ -218,9 +209,14 @@ module _ (b : List ℕ) (x : Rmap) (g : TakeGood b x) (n : ℕ) (en : n ≡ leng
 
 -- ---- remove
 
-piece-le : (t : Bool) → cond t 1 0 ≤ 1
-piece-le true = omega arith
-piece-le false = omega arith
+piece-le : (o : Option Rmap) → length (piece_of o) ≤ 1
+piece-le None = omega arith
+piece-le (Some r) = omega arith
+
+-- a record that is there only where a test holds
+piece-if : (t : Bool) (r : Rmap) → piece_of (then_some t r) ≡ cond t (r ∷ []) []
+piece-if true r = refl
+piece-if false r = refl
 
 module _ (b : List ℕ) (x : Rmap) (g : TakeGood b x) (n : ℕ) (en : n ≡ length (records_of rmaps b)) (i j at : ℕ) (ei : i ≡ strict_index x (records_of rmaps b))
     (ej : j ≡ any_index x (records_of rmaps b)) (ea : at ≡ cond (ltb i n) i j) where
@@ -237,24 +233,23 @@ module _ (b : List ℕ) (x : Rmap) (g : TakeGood b x) (n : ℕ) (en : n ≡ leng
         (contains-ends x (get_or (records_of rmaps b) at least)
         (cut-contains x (records_of rmaps b) (accepted-facts (records_of rmaps b) g.ordered) (good-facts x g.extent).0 at chosen_at (rw en at hi)))
 
-    module _ (p : ℕ) (f k : Rmap) (m z : ℕ) (ep : p ≡ seat k (records_of rmaps b)) (ek : k ≡ later x w)
-        (ef : f ≡ record { startblock = w.startblock; blockcount = x.startblock - w.startblock; owner = w.owner; offset = w.offset }) (em : m ≡ end x) (ez : z ≡ end w) where
+    module _ (p : ℕ) (f k : Rmap) (m z : ℕ) (s t : Option Rmap) (ep : p ≡ seat k (records_of rmaps b)) (ek : k ≡ later x w)
+        (ef : f ≡ record { startblock = w.startblock; blockcount = x.startblock - w.startblock; owner = w.owner; offset = w.offset }) (em : m ≡ end x) (ez : z ≡ end w)
+        (es : s ≡ then_some (ltb w.startblock x.startblock) f) (et : t ≡ then_some (ltb m z) k) where
       pub remove-parts : remove x (records_of rmaps b)
-          ≡ parts_of (records_of rmaps b) at (record { some = ltb w.startblock x.startblock; rmap = f; from = at + 1; to = p })
-          (record { some = ltb m z; rmap = k; from = p; to = p }) p
+          ≡ parts_of (records_of rmaps b) at (record { rmap = s; from = at + 1; to = p }) (record { rmap = t; from = p; to = p }) p
       unfolding parts_of front
       remove-parts =
           let l : List Rmap = records_of rmaps b in
           let c : Rmap = get_or l at least in
-          rw (ef, em, ez, ep, ek, ew, between_none l (seat (later x c) l), append-nil (cond (ltb (end x) (end c)) (later x c ∷ []) []))
+          rw (es, et, piece-if, piece-if, ef, em, ez, ep, ek, ew, between_none l (seat (later x c) l), append-nil (cond (ltb (end x) (end c)) (later x c ∷ []) []))
           (cut-is x l (accepted-facts l g.ordered) (good-facts x g.extent).0 at chosen_at (rw en at hi))
 
-      pub remove-good : PartsGood n at (record { some = ltb w.startblock x.startblock; rmap = f; from = at + 1; to = p })
-          (record { some = ltb m z; rmap = k; from = p; to = p }) p
+      pub remove-good : PartsGood n at (record { rmap = s; from = at + 1; to = p }) (record { rmap = t; from = p; to = p }) p
       remove-good =
           let l : List Rmap = records_of rmaps b in
           let up : at + 1 ≤ p = rw (ep, ek, ew) (cut-before-seat x l (accepted-facts l g.ordered) (good-facts x g.extent).0 at chosen_at (rw en at hi)) in
           let le : p ≤ n = rw (ep, en) (index-le (follows k) l) in
-          let one = piece-le (ltb w.startblock x.startblock) in
-          let two = piece-le (ltb m z) in
+          let one = piece-le s in
+          let two = piece-le t in
           record { front = omega arith; first = (up, le); second = (omega arith, le); rest = le; count = omega arith }

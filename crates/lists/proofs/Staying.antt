@@ -76,12 +76,6 @@ module _ (b : List ℕ) (i j : ℕ) (r : Refcount) (some : i < j) (inside : j �
 -- ---- a run that stays, record by record
 
 module _ (l : List Refcount) (i z n s high : ℕ) where
-  pub none-stay : AllStay z n s high (between l i i)
-  none-stay = rw (between-empty l i i (omega arith)) tt
-
-  pub stay-start : (m : List Refcount) → AllStay z n s high m → AllStay z n s high (between l i i ++ m)
-  stay-start m h = rw (between-empty l i i (omega arith)) h
-
   -- z' and n' are those behind the records up to j
   module _ (j z' n' : ℕ) (stay : (m : List Refcount) → AllStay z' n' s high m → AllStay z n s high (between l i j ++ m)) where
     pub stay-next : (r : Refcount) (rest : List Refcount) → i ≤ j → drop j l ≡ r ∷ rest → Stays z' n' s high r
@@ -119,14 +113,6 @@ Ahead e high gap = (e ≤ high) × (high ≤ 2 ^ 31 → e ≤ gap)
 pub behind-ahead : (gap e : ℕ) → e ≤ 2 ^ 31 → Ahead e (behind gap e) gap
 unfolding behind
 behind-ahead gap e h = split (leb e gap) (λ t. rw t (omega arith, λ u. omega tests)) (λ t. rw t (omega arith, λ u. absurd (omega arith)))
-
-pub behind-past : (gap e : ℕ) → e ≤ gap → e ≡ behind gap e
-unfolding behind
-behind-past gap e h = rw (le-leb e gap h) refl
-
-pub behind-before : (gap e : ℕ) → gap < e → 2 ^ 32 ≡ behind gap e
-unfolding behind
-behind-before gap e h = rw (lt-leb e gap h) refl
 
 -- what is carried behind r alone
 abbrev one : Carried → Refcount → Carried

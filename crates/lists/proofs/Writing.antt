@@ -4,8 +4,8 @@ use Prim.Native.Nat.{ℕ, ◌+◌, ◌-◌, ◌*◌, ◌/◌, ◌≤◌}
 use native.Mathlib.Nat.{add-zero, add-mul, le-div_iff_mul-le}
 use native.Mathlib.Omega.{arith}
 use mathlib.Core.Path.{◌≡◌, refl, sym, ap, ap₂, ◌∙◌}
-use mathlib.Core.Bool.{Bool, true, false, cond}
 use mathlib.Core.List.{List, [], ◌∷◌, ◌++◌, append-nil}
+use Rattle.std.specs.Prelude.{Option, Some, None}
 use lib.ListN.{length, take, drop, length-append, length-take, length-drop, take-append-drop}
 use lib.Seq.{take_at, drop_at, take_all}
 use Rattle.codec.specs.Bytes.{IsBytes, bytes_at, with_bytes}
@@ -101,25 +101,21 @@ wrote-between o o₁ old at a b j h g e w bytes =
     record { next = rw (bytes-length (between l a b), long) (omega arith); bytes = w ∙ ap (with_bytes o at) same }
 
 -- a record written, if there is one
-module _ (some : Bool) (r : Rmap) where
-  pub piece_bytes : some ≡ true → length (bytes_of rmaps (piece_of some r)) ≡ 24
-  piece_bytes h = rw h (bytes-length (r ∷ []))
+module _ (piece : Option Rmap) where
+  pub piece_bytes : (r : Rmap) → piece ≡ Some r → length (bytes_of rmaps (piece_of piece)) ≡ 24
+  piece_bytes r h = rw h (bytes-length (r ∷ []))
 
-  pub wrote-piece : (o o₁ : List ℕ) (at : ℕ) → some ≡ true → o₁ ≡ with_bytes o at (rmaps.encode r) → Wrote o o₁ at (piece_of some r) (at + 24)
-  wrote-piece o o₁ at h e = rw h (wrote_one o o₁ at r e)
+  pub wrote-piece : (r : Rmap) (o o₁ : List ℕ) (at : ℕ) → piece ≡ Some r → o₁ ≡ with_bytes o at (rmaps.encode r) → Wrote o o₁ at (piece_of piece) (at + 24)
+  wrote-piece r o o₁ at h e = rw h (wrote_one o o₁ at r e)
 
-  pub wrote_nothing : (o : List ℕ) (at : ℕ) → some ≡ false → Wrote o o at (piece_of some r) at
+  pub wrote_nothing : (o : List ℕ) (at : ℕ) → piece ≡ None → Wrote o o at (piece_of piece) at
   wrote_nothing o at h = rw h (wrote_none o at)
 
 -- ---- the size of a splice
 
-pub length-piece : (t : Bool) (r : Rmap) → length (piece_of t r) ≡ cond t 1 0
-length-piece true r = refl
-length-piece false r = refl
-
 pub length_part : (l : List Rmap) (p : Part) → p.from ≤ p.to → p.to ≤ length l → length (part_of l p) ≡ part_count p
 length_part l p h k =
-    length-append (piece_of p.some p.rmap) (between l p.from p.to) ∙ ap₂ ◌+◌ (length-piece p.some p.rmap) (length-between l p.from p.to h k)
+    length-append (piece_of p.rmap) (between l p.from p.to) ∙ ap (λ (n : ℕ). length (piece_of p.rmap) + n) (length-between l p.from p.to h k)
 
 pub length-parts : (l : List Rmap) (front : ℕ) (first second : Part) (rest : ℕ) → PartsGood (length l) front first second rest
     → length (parts_of l front first second rest) ≡ front + part_count first + part_count second + (length l - rest)

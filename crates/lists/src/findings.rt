@@ -1,6 +1,4 @@
 // What an edit of a reverse map searches for and finds.
-use crate::EditRefusal;
-use codec::rmap::Rmap;
 
 // Which searches of an edit a record passes: `tests` of specs/Inner/Searches.antt.
 #[derive(Clone, Copy)]
@@ -17,27 +15,22 @@ pub(crate) struct Hits {
     pub containing: bool,
 }
 
-// One pass over a list: whether it is in order, and the first record that passes each search, or the number of records.
+// None of them.
+pub(crate) const NO_HITS: Hits = Hits {
+    conflict: false,
+    before: false,
+    after: false,
+    aligned: false,
+    containing: false,
+};
+
+// One pass over a list in order: the first record that passes each search, or the number of records.
+// Numbers, no Options, as `note_of` and `index_where` have them: where nothing is found, the number of records.
 #[derive(Clone, Copy)]
 pub(crate) struct Scan {
-    pub ordered: bool,
     pub conflict: usize,
     pub before: usize,
     pub after: usize,
     pub aligned: usize,
     pub containing: usize,
-}
-
-// The questions on the list and on the extent: the first that fails, or what was found.
-#[derive(Clone, Copy)]
-pub(crate) enum Asked {
-    Refused(EditRefusal),
-    Found(Scan),
-}
-
-// A record, and whether it was joined to one of the list.
-#[derive(Clone, Copy)]
-pub(crate) struct Joined {
-    pub rmap: Rmap,
-    pub joins: bool,
 }

@@ -1,31 +1,11 @@
 // The free extents: the gaps between shared records, record by record.
-ghost use Rattle.std.specs.Prelude.{◌≡◌, true, ◌+◌, ◌<◌, ◌≤◌, ◌^◌, min, max, length};
+ghost use Rattle.std.specs.Prelude.{◌≡◌, true, ◌+◌, ◌≤◌, ◌^◌, length};
 ghost use Rattle.codec.specs.Accepted.{end_limit};
 ghost use Rattle.codec.specs.Records.{bytes_of, free_extents};
 ghost use Rattle.lists.specs.Inner.Passes.{writes_free, put_if, gap_of};
 
 use crate::carried::Pass;
 use codec::free_extent::{EXTENT_LEN, FreeExtent, encode};
-
-// The smaller of two numbers.
-pub(crate) fn smaller(x: u64, y: u64) -> u64
-    ensures { result ≡ min x y }
-{
-    if x <= y {
-        return x;
-    }
-    y
-}
-
-// The larger of two numbers.
-pub(crate) fn larger(x: u64, y: u64) -> u64
-    ensures { result ≡ max x y }
-{
-    if x <= y {
-        return y;
-    }
-    x
-}
 
 // The place behind a free extent at `at` from block `a` up to `z`; there is none if there is no block. A pass that writes free extents puts it into `free`.
 pub(crate) fn put_gap(free: &mut [u8], at: usize, a: u64, z: u64, pass: Pass) -> usize
@@ -43,7 +23,6 @@ pub(crate) fn put_gap(free: &mut [u8], at: usize, a: u64, z: u64, pass: Pass) ->
             blockcount: (z - a) as u32,
         };
         encode(free, at, found);
-        return at + EXTENT_LEN;
     }
     at + EXTENT_LEN
 }

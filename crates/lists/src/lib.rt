@@ -1,18 +1,21 @@
 // Edits of the two lists of a group: extents taken and given up in the reverse map, and counts lowered and raised.
 #![tactic(auto)]
 
+ghost use Rattle.std.specs.Prelude.{◌≡◌};
 ghost use Rattle.codec.specs.Told.{Tells};
+ghost use Rattle.lists.specs.declared.EditRefusal.TheVariants.{List};
 ghost use Rattle.lists.specs.Answer.{edit_number, edit_values};
 
 use codec::check::ListRefusal;
 use codec::refusal::Told;
 
 mod carried;
-mod extent;
 mod findings;
 mod gaps;
 pub mod held;
 mod join;
+mod measure;
+mod ordered;
 mod pass;
 pub mod raises;
 pub mod refcounts;
@@ -23,7 +26,7 @@ mod unchanged;
 pub mod write;
 
 // Why an edit is refused. The number of each case (docs/QUESTIONS.md) is `edit_number` of specs/Answer.antt.
-#[derive(Clone, Copy)]
+#[derive(Clone, Copy, Debug, PartialEq, Eq)]
 pub enum EditRefusal {
     // the list is not one: 19, 20 or 21
     List(ListRefusal),
@@ -43,13 +46,21 @@ pub enum EditRefusal {
     Owners,
 }
 
-impl EditRefusal {
-    // No question on an edit has values.
-    pub fn told(self) -> Told
-        ensures { Tells result (edit_number self) (edit_values self) }
-    {
-        match self {
-            EditRefusal::List(l) => l.told(),
+impl From<ListRefusal> for EditRefusal {
+    ghost from_gives = { λ e r. r ≡ List e };
+
+    fn from(e: ListRefusal) -> EditRefusal {
+        EditRefusal::List(e)
+    }
+}
+
+// No question on an edit has values.
+impl From<EditRefusal> for Told {
+    ghost from_gives = { λ r t. Tells t (edit_number r) (edit_values r) };
+
+    fn from(r: EditRefusal) -> Told {
+        match r {
+            EditRefusal::List(l) => Told::from(l),
             EditRefusal::Extent => Told::plain(22),
             EditRefusal::Overlap => Told::plain(23),
             EditRefusal::Missing => Told::plain(24),
@@ -61,22 +72,9 @@ impl EditRefusal {
     }
 }
 
-#[derive(Clone, Copy)]
-pub enum Edited {
-    // the bytes of the new list
-    Done(usize),
-    Refused(EditRefusal),
-}
-
 // The bytes of the new counts, and of the free extents.
-#[derive(Clone, Copy)]
+#[derive(Clone, Copy, Debug, PartialEq, Eq)]
 pub struct Lengths {
     pub counts: usize,
     pub free: usize,
-}
-
-#[derive(Clone, Copy)]
-pub enum Released {
-    Done(Lengths),
-    Refused(EditRefusal),
 }

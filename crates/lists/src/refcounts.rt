@@ -1,4 +1,5 @@
-// Blocks let go in the shared counts: the old list is read, the new list and the free extents go to buffers of their own.
+// Blocks let go in the shared counts: the old list is read, the new list and the free extents go to buffers of their own. The two numbers of an extent stand
+// apart, here and in raises.rt, as the promises of both steps and the C interface have them.
 ghost use Rattle.std.specs.Prelude.{◌≡◌, ◌+◌, length};
 ghost use Rattle.codec.specs.Bytes.{with_bytes};
 ghost use Rattle.codec.specs.Records.{records_of, bytes_of, refcounts, free_extents};
@@ -7,34 +8,15 @@ ghost use Rattle.lists.specs.Answer.{released_outcome, lengths_of, Releases};
 ghost use Rattle.lists.specs.Steps.{measure_outcome, Writable};
 
 use crate::carried::{Change, Pass};
-use crate::extent::{good_extent, refuse_extent};
+use crate::measure::measured;
 use crate::pass::pass;
-use crate::{EditRefusal, Released};
-use codec::check::ListRefusal;
-use codec::refcount::REFCOUNT_LEN;
+use crate::{EditRefusal, Lengths};
 
 // The first step of a release: asks 19, 21, 22 and 25, and says the bytes of the new counts and of the free extents. Writes nothing.
-pub fn measure(counts: &[u8], startblock: u32, blockcount: u32) -> Released
+pub fn measure(counts: &[u8], startblock: u32, blockcount: u32) -> Result<Lengths, EditRefusal>
     ensures { released_outcome result ≡ lengths_of (measure_outcome counts.now startblock blockcount) }
 {
-    if !good_extent(startblock, blockcount) {
-        return refuse_extent(counts, startblock, blockcount);
-    }
-    if counts.len() % REFCOUNT_LEN != 0 {
-        return Released::Refused(EditRefusal::List(ListRefusal::Length));
-    }
-    // a pass takes both buffers; one that measures leaves them alone, so a byte is lent for each
-    let mut new = [0u8; 1];
-    let mut free = [0u8; 1];
-    pass(
-        counts,
-        startblock,
-        blockcount,
-        Change::Lower,
-        &mut new,
-        &mut free,
-        Pass::Measure,
-    )
+    measured(counts, startblock, blockcount, Change::Lower)
 }
 
 // The second step: writes both lists, where the questions of the first hold and both fit.
@@ -45,7 +27,8 @@ pub fn write(counts: &[u8], startblock: u32, blockcount: u32, new: &mut [u8], fr
     ensures extents { free.new
         ≡ with_bytes free.old 0 (bytes_of free_extents (unshared (records_of refcounts counts.now) startblock blockcount)) }
 {
-    pass(
+    // the questions hold, so it refuses nothing
+    let _ = pass(
         counts,
         startblock,
         blockcount,
@@ -64,21 +47,13 @@ pub fn release(
     blockcount: u32,
     new: &mut [u8],
     free: &mut [u8],
-) -> Released
+) -> Result<Lengths, EditRefusal>
     ensures { Releases counts.now startblock blockcount result new.old new.new free.old free.new }
 {
-    let measured = measure(counts, startblock, blockcount);
-    match measured {
-        Released::Refused(why) => Released::Refused(why),
-        Released::Done(lengths) => {
-            if new.len() < lengths.counts {
-                return Released::Refused(EditRefusal::Room);
-            }
-            if free.len() < lengths.free {
-                return Released::Refused(EditRefusal::Room);
-            }
-            write(counts, startblock, blockcount, new, free);
-            Released::Done(lengths)
-        }
+    let lengths = measure(counts, startblock, blockcount)?;
+    if new.len() < lengths.counts || free.len() < lengths.free {
+        return Err(EditRefusal::Room);
     }
+    write(counts, startblock, blockcount, new, free);
+    Ok(lengths)
 }

@@ -1,89 +1,28 @@
 // Extents taken and given up in a reverse map: a splice is prepared by value, then written. The old list is read, the new one goes to another buffer.
 ghost use Rattle.std.specs.Prelude.{◌≡◌, true, cond, ◌+◌, ◌/◌, ◌^◌, ◌≤◌, ◌<◌, length};
-ghost use Rattle.codec.specs.Accepted.{end_limit};
-ghost use Rattle.codec.specs.Question.{done};
 ghost use Rattle.codec.specs.Records.{records_of, rmaps};
-ghost use Rattle.codec.specs.Rmaps.{end, exempt, good, accepted};
+ghost use Rattle.codec.specs.Rmaps.{end, exempt, good};
 ghost use Rattle.lists.specs.declared.splice.Edit.TheVariants.{Insert, InsertShared, Remove};
-ghost use Rattle.lists.specs.RmapEdits.{joined, later};
+ghost use Rattle.lists.specs.RmapEdits.{later};
 ghost use Rattle.lists.specs.Answer.{EditIs, Inserts, InsertsShared, Removes};
-ghost use Rattle.lists.specs.Splice.{parts_of, part_count, PartsGood, prepared_outcome, PreparedGood, PreparedIs};
-ghost use Rattle.lists.specs.Inner.Searches.{Finds, TakeGood};
-ghost use Rattle.lists.specs.Inner.Splicing.{edit_outcome, join_at, previous};
+ghost use Rattle.lists.specs.Splice.{part_count, PartsGood, PreparedIs};
+ghost use Rattle.lists.specs.Inner.Searches.{Finds};
+ghost use Rattle.lists.specs.Inner.Splicing.{edit_outcome, previous, SpliceIs};
 
-use crate::findings::{Asked, Joined, Scan};
-use crate::search::{after, asked, continues, seat};
-use crate::splice::{Edit, Part, Prepared, Splice};
+use crate::EditRefusal;
+use crate::findings::Scan;
+use crate::ordered::Ordered;
+use crate::search::asked;
+use crate::splice::{Edit, Part, Splice};
 use crate::write::write_splice;
-use crate::{EditRefusal, Edited};
-use codec::rmap::{RMAP_LEN, Rmap, decode, exempt};
-
-fn pick(t: bool, a: usize, b: usize) -> usize
-    ensures { result ≡ cond t a b }
-{
-    if t {
-        return a;
-    }
-    b
-}
-
-fn choose(t: bool, r: Rmap, s: Rmap) -> Rmap
-    ensures { result ≡ cond t r s }
-{
-    if t {
-        return r;
-    }
-    s
-}
+use codec::rmap::{RMAP_LEN, Rmap, exempt};
 
 // The index before `at`, and n where there is none.
+#[tactic(auto, unfolding(crate::specs::Inner::Splicing::previous))]
 fn previous(at: usize, n: usize) -> usize
     ensures { result ≡ previous at n }
 {
-    if at == 0 {
-        return n;
-    }
-    at - 1
-}
-
-// Two records that continue one another as one: the start and the whole offset of the lower.
-fn join(r: Rmap, s: Rmap) -> Rmap
-    requires { r.blockcount + s.blockcount < 2 ^ 32 }
-    ensures { result ≡ joined r s }
-{
-    Rmap {
-        startblock: r.startblock,
-        blockcount: r.blockcount + s.blockcount,
-        owner: r.owner,
-        offset: r.offset,
-    }
-}
-
-// x joined to the record i, behind it or before it, where one continues the other.
-fn join_at(old: &[u8], behind: bool, i: usize, x: Rmap) -> Joined
-    requires { (accepted (records_of rmaps old.now) ≡ true) × (end x ≤ end_limit) }
-    ensures { result ≡ join_at behind (records_of rmaps old.now) i x }
-{
-    if old.len() / RMAP_LEN <= i {
-        return Joined {
-            rmap: x,
-            joins: false,
-        };
-    }
-    let r = decode(old, i * RMAP_LEN);
-    let low = choose(behind, r, x);
-    let high = choose(behind, x, r);
-    if !continues(low, high) {
-        return Joined {
-            rmap: x,
-            joins: false,
-        };
-    }
-    let k = join(low, high);
-    Joined {
-        rmap: k,
-        joins: true,
-    }
+    if at == 0 { n } else { at - 1 }
 }
 
 // How many records a part has.
@@ -92,92 +31,87 @@ fn part_count(p: Part) -> usize
     ensures { result ≡ part_count p }
 {
     let copied = p.to - p.from;
-    if p.some {
-        return 1 + copied;
+    match p.rmap {
+        None => copied,
+        Some(_) => 1 + copied,
     }
-    copied
 }
 
 // The splice of the parts, with its size.
-fn ready(old: &[u8], front: usize, first: Part, second: Part, rest: usize) -> Prepared
-    requires { PartsGood (length old.now / rmaps.size) front first second rest }
-    ensures { (prepared_outcome (records_of rmaps old.now) result ≡ done (parts_of (records_of rmaps old.now) front first second rest))
-        × PreparedGood (records_of rmaps old.now) result }
+fn ready(old: &Ordered<'_>, front: usize, first: Part, second: Part, rest: usize) -> Splice
+    requires { PartsGood (length old.now.list.now / rmaps.size) front first second rest }
+    ensures { SpliceIs (records_of rmaps old.now.list.now) front first second rest result }
 {
-    let n = old.len() / RMAP_LEN;
-    let count = front + part_count(first) + part_count(second) + (n - rest);
-    Prepared::Ready(Splice {
+    let count = front + part_count(first) + part_count(second) + (old.len() - rest);
+    Splice {
         front,
         first,
         second,
         rest,
         size: count * RMAP_LEN,
-    })
+    }
 }
 
-// Question 23 of `insert`, and its splice.
-fn place_insert(old: &[u8], x: Rmap, s: Scan) -> Prepared
-    requires { TakeGood old.now x × Finds Insert x (records_of rmaps old.now) s }
-    ensures { PreparedIs Insert old.now x result }
+// Question 23 of `insert`, and its splice. Here and in the two below the extent is good, by a clause: a type of good extents would be taken apart in all three, since
+// what they promise is of the extent.
+fn place_insert(old: &Ordered<'_>, x: Rmap, s: Scan) -> Result<Splice, EditRefusal>
+    requires { (good x ≡ true) × Finds Insert x (records_of rmaps old.now.list.now) s }
+    ensures { PreparedIs Insert old.now.list.now x result }
 {
-    let n = old.len() / RMAP_LEN;
-    let at = after(old, x);
+    let n = old.len();
+    let at = old.after(x);
     if s.conflict < n {
-        return Prepared::Refused(EditRefusal::Overlap);
+        return Err(EditRefusal::Overlap);
     }
-    let h = join_at(old, false, at, x);
-    let y = h.rmap;
+    let high = old.join(false, at, x);
+    let y = high.unwrap_or(x);
     let i = previous(at, n);
-    let l = join_at(old, true, i, y);
-    let z = l.rmap;
-    let front = pick(l.joins, i, at);
-    let rest = pick(h.joins, at + 1, at);
+    let low = old.join(true, i, y);
+    let z = low.unwrap_or(y);
+    let front = if low.is_some() { i } else { at };
+    let rest = if high.is_some() { at + 1 } else { at };
     let first = Part {
-        some: true,
-        rmap: z,
+        rmap: Some(z),
         from: at,
         to: at,
     };
     let second = Part {
-        some: false,
-        rmap: z,
+        rmap: None,
         from: at,
         to: at,
     };
-    ready(old, front, first, second, rest)
+    Ok(ready(old, front, first, second, rest))
 }
 
 // Question 23 of `insert_shared`, and its splice.
-fn place_shared(old: &[u8], x: Rmap, s: Scan) -> Prepared
-    requires { TakeGood old.now x × Finds InsertShared x (records_of rmaps old.now) s }
-    ensures { PreparedIs InsertShared old.now x result }
+fn place_shared(old: &Ordered<'_>, x: Rmap, s: Scan) -> Result<Splice, EditRefusal>
+    requires { (good x ≡ true) × Finds InsertShared x (records_of rmaps old.now.list.now) s }
+    ensures { PreparedIs InsertShared old.now.list.now x result }
 {
-    if s.conflict < old.len() / RMAP_LEN {
-        return Prepared::Refused(EditRefusal::Overlap);
+    if s.conflict < old.len() {
+        return Err(EditRefusal::Overlap);
     }
     let i = s.before;
     let j = s.after;
-    let l = join_at(old, true, i, x);
-    let y = l.rmap;
-    let h = join_at(old, false, j, y);
-    let z = h.rmap;
-    let place = seat(old, z);
-    let low = pick(l.joins, i, place);
-    let mid = pick(l.joins, i + 1, place);
-    let rest = pick(h.joins, j + 1, j);
+    let low = old.join(true, i, x);
+    let y = low.unwrap_or(x);
+    let high = old.join(false, j, y);
+    let z = high.unwrap_or(y);
+    let place = old.seat(z);
+    let to = if low.is_some() { i } else { place };
+    let from = if low.is_some() { i + 1 } else { place };
+    let rest = if high.is_some() { j + 1 } else { j };
     let first = Part {
-        some: true,
-        rmap: z,
+        rmap: Some(z),
         from: place,
-        to: low,
+        to,
     };
     let second = Part {
-        some: false,
-        rmap: z,
-        from: mid,
+        rmap: None,
+        from,
         to: j,
     };
-    ready(old, place, first, second, rest)
+    Ok(ready(old, place, first, second, rest))
 }
 
 // The offset of w, n blocks on.
@@ -185,10 +119,7 @@ fn moved(w: Rmap, n: u64) -> u64
     requires { (good w ≡ true) × (n ≤ w.blockcount) }
     ensures { result ≡ cond (exempt w) w.offset (w.offset + n) }
 {
-    if exempt(w) {
-        return w.offset;
-    }
-    w.offset + n
+    if exempt(w) { w.offset } else { w.offset + n }
 }
 
 // What is left of w after x.
@@ -198,86 +129,75 @@ fn later(x: Rmap, w: Rmap) -> Rmap
 {
     let stop = x.end();
     let whole = w.end();
-    let offset = moved(w, stop - w.startblock as u64);
     Rmap {
         startblock: stop as u32,
         blockcount: (whole - stop) as u32,
-        owner: w.owner,
-        offset,
+        offset: moved(w, stop - w.startblock as u64),
+        ..w
     }
 }
 
 // Question 24 of `remove`, and its splice.
-fn place_remove(old: &[u8], x: Rmap, s: Scan) -> Prepared
-    requires { TakeGood old.now x × Finds Remove x (records_of rmaps old.now) s }
-    ensures { PreparedIs Remove old.now x result }
+fn place_remove(old: &Ordered<'_>, x: Rmap, s: Scan) -> Result<Splice, EditRefusal>
+    requires { (good x ≡ true) × Finds Remove x (records_of rmaps old.now.list.now) s }
+    ensures { PreparedIs Remove old.now.list.now x result }
 {
-    let n = old.len() / RMAP_LEN;
-    let i = s.aligned;
-    let j = s.containing;
-    let at = pick(i < n, i, j);
+    let n = old.len();
+    let at = if s.aligned < n {
+        s.aligned
+    } else {
+        s.containing
+    };
     if n <= at {
-        return Prepared::Refused(EditRefusal::Missing);
+        return Err(EditRefusal::Missing);
     }
-    let w = decode(old, at * RMAP_LEN);
+    let w = old.at(at);
     let k = later(x, w);
-    let place = seat(old, k);
+    let place = old.seat(k);
     let f = Rmap {
-        startblock: w.startblock,
         blockcount: x.startblock - w.startblock,
-        owner: w.owner,
-        offset: w.offset,
+        ..w
     };
     let first = Part {
-        some: w.startblock < x.startblock,
-        rmap: f,
+        rmap: (w.startblock < x.startblock).then_some(f),
         from: at + 1,
         to: place,
     };
     let second = Part {
-        some: x.end() < w.end(),
-        rmap: k,
+        rmap: (x.end() < w.end()).then_some(k),
         from: place,
         to: place,
     };
-    ready(old, at, first, second, place)
+    Ok(ready(old, at, first, second, place))
 }
 
 // An edit prepared: the questions 19, 20, 22, and 23 or 24, then the new list. Nothing is written.
-pub fn prepare(old: &[u8], e: Edit, x: Rmap) -> Prepared
+pub fn prepare(old: &[u8], e: Edit, x: Rmap) -> Result<Splice, EditRefusal>
     ensures { PreparedIs e old.now x result }
 {
-    let found = asked(old, e, x);
-    match found {
-        Asked::Refused(q) => Prepared::Refused(q),
-        Asked::Found(s) => match e {
-            Edit::Insert => place_insert(old, x, s),
-            Edit::InsertShared => place_shared(old, x, s),
-            Edit::Remove => place_remove(old, x, s),
-        },
+    let s = asked(old, e, x)?;
+    let list = Ordered { list: old };
+    match e {
+        Edit::Insert => place_insert(&list, x, s),
+        Edit::InsertShared => place_shared(&list, x, s),
+        Edit::Remove => place_remove(&list, x, s),
     }
 }
 
 // An edit prepared, 26 asked, and the new list written; a refusal writes nothing.
-fn edit(old: &[u8], e: Edit, x: Rmap, new: &mut [u8]) -> Edited
+fn edit(old: &[u8], e: Edit, x: Rmap, new: &mut [u8]) -> Result<usize, EditRefusal>
     ensures { EditIs (edit_outcome e old.now x (length new.old)) result new.old new.new }
 {
-    let prepared = prepare(old, e, x);
-    match prepared {
-        Prepared::Refused(q) => Edited::Refused(q),
-        Prepared::Ready(p) => {
-            let size = p.size;
-            if new.len() < size {
-                return Edited::Refused(EditRefusal::Room);
-            }
-            write_splice(old, p, new);
-            Edited::Done(size)
-        }
+    let p = prepare(old, e, x)?;
+    if new.len() < p.size {
+        return Err(EditRefusal::Room);
     }
+    write_splice(old, p, new);
+    Ok(p.size)
 }
 
 // Takes an extent of which no block is held: questions 19, 20, 22, 23 and 26, then the new list, of which the bytes are said.
-pub fn insert(old: &[u8], x: Rmap, new: &mut [u8]) -> Edited
+pub fn insert(old: &[u8], x: Rmap, new: &mut [u8]) -> Result<usize, EditRefusal>
     ensures { Inserts old.now x result new.old new.new }
 {
     edit(old, Edit::Insert, x, new)
@@ -285,14 +205,14 @@ pub fn insert(old: &[u8], x: Rmap, new: &mut [u8]) -> Edited
 
 // The same for an extent whose blocks others may hold; 23 asks that no record clashes. The counts are left alone, so they may no longer agree
 // with the new list: `take_held` of crate groups is the call for held blocks, and histories take by that.
-pub fn insert_shared(old: &[u8], x: Rmap, new: &mut [u8]) -> Edited
+pub fn insert_shared(old: &[u8], x: Rmap, new: &mut [u8]) -> Result<usize, EditRefusal>
     ensures { InsertsShared old.now x result new.old new.new }
 {
     edit(old, Edit::InsertShared, x, new)
 }
 
 // Gives an extent up: questions 19, 20, 22, 24 and 26, then the new list, of which the bytes are said.
-pub fn remove(old: &[u8], x: Rmap, new: &mut [u8]) -> Edited
+pub fn remove(old: &[u8], x: Rmap, new: &mut [u8]) -> Result<usize, EditRefusal>
     ensures { Removes old.now x result new.old new.new }
 {
     edit(old, Edit::Remove, x, new)

@@ -1,7 +1,7 @@
 // Edits of a reverse map prepared by value: a splice is the new list as parts of the old one.
-use crate::EditRefusal;
 use codec::rmap::Rmap;
 
+// What becomes of an extent. An enum and no trait: it is asked at two places, and each edit is one arm there.
 #[derive(Clone, Copy)]
 pub enum Edit {
     Insert,
@@ -12,8 +12,7 @@ pub enum Edit {
 // A part of a new list: a record if there is one, then the records of the old list from `from` up to `to`.
 #[derive(Clone, Copy)]
 pub struct Part {
-    pub some: bool,
-    pub rmap: Rmap,
+    pub rmap: Option<Rmap>,
     pub from: usize,
     pub to: usize,
 }
@@ -26,10 +25,4 @@ pub struct Splice {
     pub second: Part,
     pub rest: usize,
     pub size: usize,
-}
-
-#[derive(Clone, Copy)]
-pub enum Prepared {
-    Refused(EditRefusal),
-    Ready(Splice),
 }

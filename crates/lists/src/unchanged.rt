@@ -1,12 +1,11 @@
 // Shared counts that an edit leaves as they are: a run of them is found in one go, and copied as bytes.
-ghost use Rattle.std.specs.Prelude.{◌≡◌, true, false, ◌+◌, ◌/◌, ◌<◌, ◌≤◌, length};
+ghost use Rattle.std.specs.Prelude.{◌≡◌, true, false, ◌+◌, ◌/◌, ◌≤◌, length};
 ghost use Rattle.codec.specs.Records.{records_of, refcounts};
 ghost use Rattle.lists.specs.Splice.{between};
 ghost use Rattle.lists.specs.Inner.Passes.{writes_counts, put_if};
 ghost use Rattle.lists.specs.Inner.Staying.{Stays, AllStay, behind, Unchanged, SkipAsks, Skipped};
 
-use crate::carried::{Carried, Joiner, Pass};
-use crate::gaps::larger;
+use crate::carried::{Carried, CountEdit, Joiner, Pass};
 use crate::join::finish;
 use codec::check::END_LIMIT;
 use codec::copy::copy;
@@ -16,10 +15,7 @@ use codec::refcount::{REFCOUNT_LEN, Refcount, decode};
 fn joins(start: u64, owners: u32, stop: u64, last: u32) -> bool
     ensures { result ≡ false → start ≡ stop → owners ≡ last → ⊥ }
 {
-    if start == stop {
-        return owners == last;
-    }
-    false
+    start == stop && owners == last
 }
 
 // Does a record stay behind the place `stop`, where so many `owners` stop? It is good and shared, joins nothing, and lies before `s` or from `high` on.
@@ -28,81 +24,60 @@ fn stays(r: Refcount, stop: u64, owners: u32, s: u64, high: u64) -> bool
 {
     let start = r.startblock as u64;
     let end = start + r.blockcount as u64;
-    if r.blockcount == 0 {
+    // as one expression it took 9 instructions a count more
+    if r.blockcount == 0
+        || END_LIMIT < end
+        || r.refcount < 2
+        || start < stop
+        || joins(start, r.refcount, stop, owners)
+    {
         return false;
     }
-    if END_LIMIT < end {
-        return false;
-    }
-    if r.refcount < 2 {
-        return false;
-    }
-    if start < stop {
-        return false;
-    }
-    if joins(start, r.refcount, stop, owners) {
-        return false;
-    }
-    if end <= s {
-        return true;
-    }
-    high <= start
+    end <= s || high <= start
 }
 
-// The end of a run of records that stay, from number i on.
+// The end of a run of records that stay, from number i on. A call of its own: inlined into a pass, it takes 10 instructions a count more.
+#[inline(never)]
 fn run_end(counts: &[u8], i: usize, stop: u64, owners: u32, s: u64, high: u64) -> usize
     requires { i ≤ length counts.now / refcounts.size }
     ensures lower_bound { (i ≤ result) × (result ≤ length counts.now / refcounts.size) }
     ensures all_stay { AllStay stop owners s high (between (records_of refcounts counts.now) i result) }
 {
     let n = counts.len() / REFCOUNT_LEN;
-    let mut j = i;
     let mut last_stop = stop;
     let mut last_owners = owners;
-    while j < n {
+    for j in i..n {
         let r = decode(counts, j * REFCOUNT_LEN);
         if !stays(r, last_stop, last_owners, s, high) {
             return j;
         }
         last_stop = r.startblock as u64 + r.blockcount as u64;
         last_owners = r.refcount;
-        j += 1;
     }
-    j
+    n
 }
 
 // From where on a record behind the extent stays: none does before all free blocks are found.
+#[tactic(auto, unfolding(crate::specs::Inner::Staying::behind))]
 fn behind(gap: u64, e: u64) -> u64
     ensures { result ≡ behind gap e }
 {
-    if e <= gap {
-        return e;
-    }
-    0x1_0000_0000
+    if gap < e { 0x1_0000_0000 } else { e }
 }
 
-// Is the place inside the extent from `s` up to `e`?
-fn inside(place: u64, s: u64, e: u64) -> bool {
-    if place <= s {
-        return false;
-    }
-    place < e
-}
-
-// The end of a run of records that an edit of `s` up to `e` leaves as they are, from number i on; i if there is none.
-pub(crate) fn unchanged(w: Carried, counts: &[u8], i: usize, s: u64, e: u64) -> usize
+// The end of a run of records that an edit leaves as they are, from number i on; i if there is none.
+pub(crate) fn unchanged(w: Carried, counts: &[u8], i: usize, edit: CountEdit) -> usize
     requires { i ≤ length counts.now / refcounts.size }
     ensures lower_bound { (i ≤ result) × (result ≤ length counts.now / refcounts.size) }
-    ensures unchanged { Unchanged s e w (between (records_of refcounts counts.now) i result) }
+    ensures unchanged { Unchanged edit.start edit.end w (between (records_of refcounts counts.now) i result) }
 {
-    if inside(w.gap, s, e) {
+    // none does behind a staging record, nor while a free block of the extent may be found
+    if w.prev.is_staging() || edit.start < w.gap && w.gap < edit.end {
         return i;
     }
-    let prev = w.prev;
-    let waits = w.joiner;
-    let stop = prev.startblock as u64 + prev.blockcount as u64;
-    let high = behind(w.gap, e);
-    run_end(counts, i, stop, waits.owners, s, high)
+    let stop = w.prev.startblock as u64 + w.prev.blockcount as u64;
+    let high = behind(w.gap, edit.end);
+    run_end(counts, i, stop, w.joiner.owners, edit.start, high)
 }
 
 // Puts bytes of the old counts at a place of `new`, in a pass that writes.
@@ -110,10 +85,9 @@ fn put_counts(bytes: &[u8], new: &mut [u8], at: usize, pass: Pass)
     requires { writes_counts pass ≡ true → at + length bytes.now ≤ length new.old }
     ensures { new.new ≡ put_if (writes_counts pass) new.old at bytes.now }
 {
-    if !pass.writes_counts() {
-        return;
+    if pass.writes_counts() {
+        copy(bytes, new, at);
     }
-    copy(bytes, new, at);
 }
 
 // Carries on behind the records from number i up to j, which stay. The last one waits; a pass that writes copies those before it.
@@ -131,15 +105,12 @@ pub(crate) fn skip(
     if j <= i {
         return w;
     }
-    let last = j - 1;
     let from = i * REFCOUNT_LEN;
-    let to = last * REFCOUNT_LEN;
-    let waits = w.joiner;
-    let at = finish(waits, new, pass);
+    let to = (j - 1) * REFCOUNT_LEN;
+    let at = finish(w.joiner, new, pass);
     put_counts(&counts[from..to], new, at, pass);
     let r = decode(counts, to);
     let end = r.startblock as u64 + r.blockcount as u64;
-    let gap = larger(w.gap, end);
     Carried {
         prev: r,
         joiner: Joiner {
@@ -148,9 +119,7 @@ pub(crate) fn skip(
             owners: r.refcount,
             at: at + (to - from),
         },
-        gap: gap,
-        free: w.free,
-        clear: w.clear,
-        fit: w.fit,
+        gap: w.gap.max(end),
+        ..w
     }
 }

@@ -1,4 +1,5 @@
 // A splice written: the records kept are copied as bytes, the new ones put between them.
+// The place goes along as a number: each part is put behind the one before, and a buffer cut there would need the place handed back all the same.
 ghost use Rattle.std.specs.Prelude.{◌≡◌, ◌+◌, ◌-◌, ◌*◌, ◌/◌, ◌≤◌, length};
 ghost use Rattle.codec.specs.Bytes.{with_bytes};
 ghost use Rattle.codec.specs.Records.{records_of, bytes_of, rmaps};
@@ -22,15 +23,16 @@ fn copy_records(old: &[u8], a: usize, b: usize, new: &mut [u8], at: usize) -> us
 }
 
 // Writes a record, if there is one, at the place `at`, and returns the place after it.
-fn put_piece(new: &mut [u8], at: usize, some: bool, r: Rmap) -> usize
-    requires { at + length (bytes_of rmaps (piece_of some r)) ≤ length new.old }
-    ensures { Wrote new.old new.new at (piece_of some r) result }
+fn put_piece(new: &mut [u8], at: usize, piece: Option<Rmap>) -> usize
+    requires { at + length (bytes_of rmaps (piece_of piece)) ≤ length new.old }
+    ensures { Wrote new.old new.new at (piece_of piece) result }
 {
-    if some {
-        encode(new, at, r);
-        at + RMAP_LEN
-    } else {
-        at
+    match piece {
+        None => at,
+        Some(r) => {
+            encode(new, at, r);
+            at + RMAP_LEN
+        }
     }
 }
 
@@ -40,8 +42,7 @@ fn put_part(old: &[u8], p: Part, new: &mut [u8], at: usize) -> usize
     requires p_in_bounds { at + length (bytes_of rmaps (part_of (records_of rmaps old.now) p)) ≤ length new.old }
     ensures { Wrote new.old new.new at (part_of (records_of rmaps old.now) p) result }
 {
-    let r = p.rmap;
-    let next = put_piece(new, at, p.some, r);
+    let next = put_piece(new, at, p.rmap);
     copy_records(old, p.from, p.to, new, next)
 }
 
@@ -51,10 +52,8 @@ pub fn write_splice(old: &[u8], p: Splice, new: &mut [u8])
     requires size_in_bounds { p.size ≤ length new.old }
     ensures { new.new ≡ with_bytes new.old 0 (bytes_of rmaps (list_of (records_of rmaps old.now) p)) }
 {
-    let first = p.first;
-    let second = p.second;
     let a = copy_records(old, 0, p.front, new, 0);
-    let b = put_part(old, first, new, a);
-    let c = put_part(old, second, new, b);
+    let b = put_part(old, p.first, new, a);
+    let c = put_part(old, p.second, new, b);
     copy_records(old, p.rest, old.len() / RMAP_LEN, new, c);
 }

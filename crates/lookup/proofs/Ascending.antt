@@ -1,7 +1,10 @@
 -- Laws of ascending numbers: the first that is not below a number, and whether one lies between two.
 -- Assumes nothing.
-use Rattle.std.proofs.Common.{◌≡◌, ℕ, zero, suc, ◌-◌, ◌<◌, ◌≤◌, Bool, true, false, ◌&&◌, ◌||◌, ltb, leb, ◌⊎◌, List, [], ◌∷◌, length, get_or, drop, sym, refl, ap, ◌∙◌, inl, inr, arith, length-drop, drop-cons, ltb-false, ltb-true, le-ltb, lt-ltb, le-leb, leb-false, leb-true}
+use Rattle.std.proofs.Common.{◌≡◌, ℕ, zero, suc, ◌+◌, ◌-◌, ◌<◌, ◌≤◌, Bool, true, false, ◌&&◌, ◌||◌, ltb, leb, ◌⊎◌, List, [], ◌∷◌, length, get_or, sym, refl, ap, ◌∙◌, inl, inr, arith, ltb-false, ltb-true, le-ltb, lt-ltb, le-leb, leb-false, leb-true}
 use borrow.Author.Tests.{lt-leb}
+use Rattle.std.proofs.lemmas.List.{get_or_default}
+use Rattle.std.specs.List.{AllAdjacentBelow}
+use Rattle.std.specs.List.Sorted.{IsNonDecreasingBy, IsPartitionPoint}
 use Rattle.lookup.specs.Lookup.{ascending, any_between}
 use Rattle.lookup.specs.Inner.Numbers.{first_at, is_below}
 use Rattle.lists.proofs.Cases.{split, and_l, and_r, and-off}
@@ -18,23 +21,21 @@ short-ascends [] h = refl
 short-ascends (a ∷ []) h = refl
 short-ascends (a ∷ b ∷ l) h = absurd (omega arith)
 
--- two numbers one after the other, from place i - 1 on
-two : (l : List ℕ) (i : ℕ) → 1 ≤ i → i < length l → drop (i - 1) l ≡ get_or l (i - 1) 0 ∷ get_or l i 0 ∷ drop (suc i) l
-two l i h k =
-    let e : suc (i - 1) ≡ i = omega arith in
-    drop-cons l (i - 1) 0 (omega arith) ∙ ap (λ (x : List ℕ). get_or l (i - 1) 0 ∷ x) (ap (λ (n : ℕ). drop n l) e ∙ drop-cons l i 0 k)
+-- what the library says of each two neighbours
+pub sorted-ascends : (l : List ℕ) → AllAdjacentBelow (λ x y. true ≡ ltb x y) l (length l) → ascending l ≡ true
+unfolding ascending
+sorted-ascends [] h = refl
+sorted-ascends (a ∷ []) h = refl
+sorted-ascends (a ∷ b ∷ l) h = rw (← h 0 0 (omega arith)) (sorted-ascends (b ∷ l) (λ k d q. let e : suc k + 1 ≡ suc (k + 1) = omega arith in rw e at (h (suc k) d (omega arith))))
 
-module _ (l : List ℕ) (i : ℕ) where
-  pub ascends-not : 1 ≤ i → i < length l → get_or l i 0 ≤ get_or l (i - 1) 0 → ascending (drop (i - 1) l) ≡ false
-  unfolding ascending
-  ascends-not h k b = ap ascending (two l i h k) ∙ rw (le-ltb (get_or l (i - 1) 0) (get_or l i 0) b) refl
-
-  pub ascends-next : 1 ≤ i → i < length l → get_or l (i - 1) 0 < get_or l i 0 → ascending (drop (i - 1) l) ≡ ascending (drop i l)
-  unfolding ascending
-  ascends-next h k b = ap ascending (two l i h k) ∙ rw (lt-ltb (get_or l (i - 1) 0) (get_or l i 0) b) (ap ascending (sym (drop-cons l i 0 k)))
-
-  pub ascends-end : length l ≤ i → ascending (drop (i - 1) l) ≡ true
-  ascends-end h = short-ascends (drop (i - 1) l) (omega (arith, length-drop (i - 1) l))
+pub unsorted-not : (l : List ℕ) (k : ℕ) → k + 1 < length l → false ≡ ltb (get_or l k 0) (get_or l (k + 1) 0) → ascending l ≡ false
+unfolding ascending
+unsorted-not [] k h e = absurd (omega arith)
+unsorted-not (a ∷ []) k h e = absurd (omega arith)
+unsorted-not (a ∷ b ∷ l) zero h e = rw (← e) refl
+unsorted-not (a ∷ b ∷ l) (suc k) h e =
+    let n : suc k + 1 ≡ suc (k + 1) = omega arith in
+    ap (λ (t : Bool). ltb a b && t) (unsorted-not (b ∷ l) k (omega arith) (rw n at e)) ∙ and-off (ltb a b)
 
 ascends-tail : (a : ℕ) (l : List ℕ) → ascending (a ∷ l) ≡ true → ascending l ≡ true
 unfolding ascending
@@ -83,6 +84,20 @@ module _ (a : ℕ) where
   -- from there on none is below it
   pub first-after : (l : List ℕ) → ascending l ≡ true → (i : ℕ) → i < length l → first_at a l ≤ i → a ≤ get_or l i 0
   first-after l e i h k = split (ltb (get_or l i 0) a) (λ f. absurd (omega (arith, first_past l e i h (ltb-true (get_or l i 0) a f)))) (λ f. ltb-false (get_or l i 0) a f)
+
+-- where the library parts the numbers below a from the others
+pub rising : (l : List ℕ) → ascending l ≡ true → IsNonDecreasingBy (λ (x : ℕ). x) l
+rising l e i j d h k = rw (get_or_default l i d 0 (omega arith), get_or_default l j d 0 k) (ascends-order l e i j h k)
+
+pub part-first : (a : ℕ) (l : List ℕ) (i : ℕ) → ascending l ≡ true → i ≤ length l → IsPartitionPoint (λ y. ltb y a ≡ true) (λ y. ltb y a ≡ false) l i → i ≡ first_at a l
+part-first a l i up h p =
+    let low : i ≤ first_at a l = split (ltb 0 i)
+    (λ t. omega (arith, ltb-true 0 i t, first_past a l up (i - 1) (omega (arith, ltb-true 0 i t)) (ltb-true (get_or l (i - 1) 0) a (p.0 (i - 1) 0 (omega arith) (omega (arith, ltb-true 0 i t))))))
+    (λ t. omega (arith, ltb-false 0 i t)) in
+    let high : first_at a l ≤ i = split (ltb i (length l))
+    (λ t. first-most a l i (ltb-true i (length l) t) (ltb-false (get_or l i 0) a (p.1 i 0 (omega arith) (ltb-true i (length l) t))))
+    (λ t. omega (arith, first-length a l, ltb-false i (length l) t)) in
+    omega arith
 
 -- ---- a number between two others
 

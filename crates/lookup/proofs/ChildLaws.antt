@@ -4,7 +4,7 @@ use Rattle.std.proofs.Common.{◌≡◌, ℕ, ◌+◌, ◌-◌, ◌*◌, ◌<◌
 use Rattle.blocks.specs.declared.geometry.Geometry.{Geometry}
 use Rattle.blocks.specs.declared.kind.TreeKind.TheVariants as kind
 use Rattle.blocks.specs.Geometry.{geometry_ok}
-use Rattle.blocks.specs.Tree.{header_len}
+use Rattle.blocks.specs.Tree.{header_len, keys_len}
 use Rattle.blocks.proofs.Laws.{places-fit, header_fits}
 use Rattle.walks.specs.Walk.{Visit, visit_of, Shape, per_node, block_in}
 use Rattle.walks.specs.Shapes.{shape_of}
@@ -19,6 +19,10 @@ keys-inside g ok i h =
     let c : ℕ = per_node (shape_of g kind.Rmap) in
     let k : header_len g.version + c * 44 ≤ g.blocksize = places-fit kind.Rmap g.version 1 g.blocksize c (header_fits g kind.Rmap 1 ok) (le_refl c) in
     omega arith
+
+-- the same where the lengths of a header and of a child's keys are at hand
+pub keys-at : (g : Geometry) {i head keys : ℕ} → geometry_ok g ≡ true → i < per_node (shape_of g kind.Rmap) → head ≡ header_len g.version → keys ≡ keys_len kind.Rmap → head + i * keys + 40 ≤ g.blocksize
+keys-at g {i} ok h he ke = rw (he, ke) (keys-inside g ok i h)
 
 module _ (s : Shape) (image : List ℕ) (p p' : List ℕ) (block level from levels : ℕ) (o : Opened s image p from levels) (m : Moved s image block level from levels p p') where
   abbrev up : ℕ

@@ -148,7 +148,7 @@ module _ (g : Geometry) (ok : geometry_ok g ≡ true) (image : List ℕ) (levels
   paths_of p l = path_of (due_in (keeps asked sh) sh image) p l (levels - l)
 
   -- before the first turn
-  pub descent-begin : (root : ℕ) (stack answers : List ℕ) → Ready (geometry_ok g) levels limit asked stack answers → Zeroed asked answers
+  pub descent-begin : (root : ℕ) (stack answers : List ℕ) → Ready levels limit asked stack answers → Zeroed asked answers
       → Descending (look_asked asked sh image) limit (descent_of asked sh image root levels limit) asked (summed (length asked) answers) (summed (length asked) answers) 0
       (visit_of root (levels - 1) ∷ paths_of stack (levels - 1 + 1))
       × Opened sh image stack (levels - 1 + 1) levels
@@ -217,3 +217,14 @@ module _ (g : Geometry) (ok : geometry_ok g ≡ true) (image : List ℕ) (levels
       let f = found-records g image block level asked counts ok d e in
       turn stack block level k o h less f.below f.bytes f.is f.whole f.few counts'
       (wrote ∙ ap (λ (l : Look). tallied (records_of rmaps (bytes_found l)) asked counts) f.is)
+
+  -- the same where the pairs and their lowest level are at hand
+  pub descent-opened : {total : Trace} {counts₀ counts counts' : List ℕ} {v low : ℕ} {stack p : List ℕ} {block level : ℕ} {h : Header}
+      → Descending (look_asked asked sh image) limit total asked counts₀ counts v (visit_of block level ∷ paths_of stack (level + 1))
+      → Opened sh image stack (level + 1) levels → level < levels → v < limit
+      → header_in g kind.Rmap image (visit_of block level) ≡ done h
+      → counts' ≡ tallied (records_of rmaps (bytes_found (look_in sh image (visit_of block level)))) asked counts
+      → (low ≡ low_of level) × (p ≡ with_pair stack block level)
+      → Descending (look_asked asked sh image) limit total asked counts₀ counts' (v + 1) (paths_of p low) × Opened sh image p low levels
+  descent-opened {stack = stack} {block = block} {level = level} {h = h} k o less d e wrote w =
+      rw (w.0, w.1) (descent-turn stack block level k o less d h e _ wrote)

@@ -2,7 +2,9 @@
 -- Assumes nothing.
 use Rattle.std.proofs.Common.{◌≡◌, ℕ, zero, suc, ◌+◌, ◌-◌, ◌%◌, ◌^◌, ◌<◌, ◌≤◌, Bool, true, false, ◌&&◌, ltb, List, [], ◌∷◌, ◌++◌, length, get_or, take, drop, set, replicate, sym, refl, ap, ◌∙◌, subst, ap₂, add-one, arith, length-set, length-take-le, get_or-drop, get_or-set_other, get_or-take, take-suc, get_or-set_same, get_or-append-add, ext_get_or, ltb-false, ltb-true}
 use native.Mathlib.Decide.{dec_lt}
-use lib.ListN.{length-replicate, get_or-append, get_or-eq_default, get_or-replicate}
+use lib.ListN.{length-replicate, get_or-append, get_or-eq_default, get_or-replicate, drop_of_length-le}
+use lib.Seq.{take-length}
+use mathlib.Core.List.{append-nil}
 use Rattle.codec.specs.Bytes.{with_bytes}
 use Rattle.codec.specs.declared.rmap.Rmap.{Rmap}
 use Rattle.codec.proofs.Parts.{length-with_bytes}
@@ -21,6 +23,15 @@ pub sums-length : (c : ℕ) (l : List ℕ) → length (sums c l) ≡ length l
 unfolding sums
 sums-length c [] = refl
 sums-length c (d ∷ l) = ap suc (sums-length ((c + d) % 2 ^ 64) l)
+
+-- all places summed
+pub summed-all : (l : List ℕ) → summed (length l) l ≡ sums 0 l
+summed-all l =
+    let y : List ℕ = sums 0 l in
+    ap (λ (x : List ℕ). with_bytes l 0 (sums 0 x)) (take-length l)
+    ∙ with_bytes-is l 0 y
+    ∙ ap (λ (x : List ℕ). y ++ x) (drop_of_length-le l {i = 0 + length y} (omega (arith, sums-length 0 l)))
+    ∙ append-nil y
 
 sums-small : (c : ℕ) (l : List ℕ) (k : ℕ) → get_or (sums c l) k 0 < 2 ^ 64
 unfolding sums

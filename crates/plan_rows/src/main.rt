@@ -3,7 +3,7 @@
 #![tactic(auto)]
 
 use plan_text::text::respond;
-use show::places::all8;
+use show::places::throughout;
 
 fn put(s: &[u8]) {
     io::write_all(1, s);
@@ -22,17 +22,15 @@ fn put_byte(b: u8) {
 // An input in quotes.
 fn quote(s: &[u8]) {
     put(b"\"");
-    let mut i = 0;
-    while i < s.len() {
-        put_byte(s[i]);
-        i += 1;
+    for b in s {
+        put_byte(*b);
     }
     put(b"\"\n");
 }
 
 // Says so where a byte of the buffer was written that is no part of the answer.
 fn untouched(rest: &[u8]) {
-    if !all8(rest, 0xEE) {
+    if !throughout(rest, 0xEE) {
         put(b"written past the answer\n");
     }
 }

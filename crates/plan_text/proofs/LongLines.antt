@@ -6,7 +6,7 @@ use native.Mathlib.Omega.{arith}
 use mathlib.Core.Path.{◌≡◌, refl, ap, sym, ◌∙◌}
 use mathlib.Core.Bool.{Bool, true, false, cond, ◌&&◌, and-false}
 use mathlib.Core.List.{List, [], ◌∷◌, ◌++◌}
-use mathlib.Core.Option.{Option, none, some}
+use Rattle.std.specs.Prelude.{Option, None, Some}
 use lib.Dec.{eqb, leb}
 use lib.ListN.{length, take, replicate, length-drop}
 use lib.Seq.{length-take-le, take_all}
@@ -18,37 +18,37 @@ use Rattle.plan_text.specs.Text.{reply, answer_text, CutIsExact}
 use Rattle.plan_text.proofs.LineLaws.{same-long, name-none, number-long, request-name}
 
 -- a name has 8 bytes at most
-long-name : (name : List ℕ) → 8 < length name → none ≡ kind_of name
+long-name : (name : List ℕ) → 8 < length name → None ≡ kind_of name
 long-name name h =
     name-none name (same-long name rmap_name (λ e. let f : length name ≡ 4 = e in omega arith)) (same-long name refcount_name (λ e. let f : length name ≡ 8 = e in omega arith))
 
 -- the three parts have 44 at most
 module _ (name size records : List ℕ) where
-  no_size : (o : Option TreeKind) → false ≡ is_number size → request_of o size records ≡ none
+  no_size : (o : Option TreeKind) → false ≡ is_number size → request_of o size records ≡ None
   unfolding request_of
-  no_size none h = refl
-  no_size (some k) h = rw (← h) refl
+  no_size None h = refl
+  no_size (Some k) h = rw (← h) refl
 
-  no-records : (o : Option TreeKind) → false ≡ is_number records → request_of o size records ≡ none
+  no-records : (o : Option TreeKind) → false ≡ is_number records → request_of o size records ≡ None
   unfolding request_of
-  no-records none h = refl
-  no-records (some k) h = rw (← h, and-false (is_number size)) refl
+  no-records None h = refl
+  no-records (Some k) h = rw (← h, and-false (is_number size)) refl
 
-  long-parts : 44 < length name + (length size + length records) → request_of (kind_of name) size records ≡ none
+  long-parts : 44 < length name + (length size + length records) → request_of (kind_of name) size records ≡ None
   long-parts h = go (leb 9 (length name)) (leb 19 (length size)) refl refl
     where
-      go : (t u : Bool) → leb 9 (length name) ≡ t → leb 19 (length size) ≡ u → request_of (kind_of name) size records ≡ none
+      go : (t u : Bool) → leb 9 (length name) ≡ t → leb 19 (length size) ≡ u → request_of (kind_of name) size records ≡ None
       go true u e f = sym (request-name name size records (long-name name (omega (arith, leb-true 9 (length name) e))))
       go false true e f = no_size (kind_of name) (number-long size (omega (arith, leb-true 19 (length size) f)))
       go false false e f =
           no-records (kind_of name) (number-long records (omega (arith, leb-false 9 (length name) e, leb-false 19 (length size) f)))
 
 -- a line has 46 at most
-long-line : (l : List ℕ) → 46 < length l → line_of l ≡ none
+long-line : (l : List ℕ) → 46 < length l → line_of l ≡ None
 unfolding line_of
 long-line l h = go (has_space l) (has_space (rest l)) refl refl
   where
-    go : (t u : Bool) → has_space l ≡ t → has_space (rest l) ≡ u → cond (t && u) (request_of (kind_of (word l)) (word (rest l)) (rest (rest l))) none ≡ none
+    go : (t u : Bool) → has_space l ≡ t → has_space (rest l) ≡ u → cond (t && u) (request_of (kind_of (word l)) (word (rest l)) (rest (rest l))) None ≡ None
     go true true e f =
         let i : space_at l < length l = ltb-true (space_at l) (length l) e in
         let j : space_at (rest l) < length (rest l) = ltb-true (space_at (rest l)) (length (rest l)) f in
@@ -97,7 +97,7 @@ zeros n = replicate n 48
 abbrev longest : List ℕ
 longest = refcount_name ++ ((32 ∷ zeros 14) ++ ((52 ∷ 48 ∷ 57 ∷ 54 ∷ 32 ∷ zeros 15) ++ (51 ∷ 51 ∷ 55 ∷ 10 ∷ [])))
 
-pub longest-asks : (length longest ≡ 47) × (request longest ≡ some (record { kind = Refcount; blocksize = 4096; records = 337 }))
+pub longest-asks : (length longest ≡ 47) × (request longest ≡ Some (record { kind = Refcount; blocksize = 4096; records = 337 }))
 unfolding chomp space_at kind_of all_digits is_number value_from request_of line_of
 longest-asks = (refl, refl)
 
@@ -105,7 +105,7 @@ longest-asks = (refl, refl)
 abbrev too_long : List ℕ
 too_long = refcount_name ++ ((32 ∷ zeros 14) ++ ((52 ∷ 48 ∷ 57 ∷ 54 ∷ 32 ∷ zeros 16) ++ (51 ∷ 51 ∷ 55 ∷ 10 ∷ [])))
 
-pub too-long-asks-nothing : (length too_long ≡ 48) × (request too_long ≡ none)
+pub too-long-asks-nothing : (length too_long ≡ 48) × (request too_long ≡ None)
 too-long-asks-nothing = (refl, long-input too_long (omega arith))
 
 -- the cut of the program `plan`

@@ -4,30 +4,27 @@ use Prim.Native.Nat.{ℕ, zero, suc, ◌+◌, ◌*◌, ◌/◌, ◌%◌, ◌^◌
 use native.Mathlib.Nat.{pow-suc, add-zero, zero-add}
 use native.Mathlib.Numerals.{add-one}
 use native.Mathlib.Omega.{arith}
-use mathlib.Core.Path.{◌≡◌, refl, ap, ap₂, sym, subst, ◌∙◌}
+use mathlib.Core.Path.{◌≡◌, refl, ap, ap₂, sym, ◌∙◌}
 use mathlib.Core.Bool.{Bool, false, cond}
-use mathlib.Core.Option.{none, some}
+use Rattle.std.specs.Prelude.{Some, Ok}
 use lib.Dec.{leb}
 use mathlib.Core.List.{List, [], ◌∷◌, ◌++◌, append_assoc, append-nil}
 use lib.ListN.{length, set, get_or, take, length-append}
-use borrow.Author.Tests.{lt-ltb, le-ltb, le-leb, lt-leb, ne_eqb}
+use borrow.Author.Tests.{lt-ltb, le-ltb, le-leb, ne_eqb}
 use native.Mathlib.Decide.{dec_lt}
 use Rattle.codec.specs.Bytes.{with_bytes}
-use Rattle.codec.specs.Question.{Outcome, done, ask, answer}
+use Rattle.codec.specs.Question.{Outcome, ask, answer}
 use Rattle.codec.proofs.Parts.{length-with_bytes, with_bytes-one, with_bytes-add}
 use Rattle.codec.proofs.Stores.{with_bytes-none}
 use Rattle.blocks.specs.Geometry.{geometry_ok, is_version, is_block_size}
 use Rattle.trees.specs.Plan.{sum, planned}
 use Rattle.walks.specs.Walk.{per_leaf, per_node}
 use Rattle.walks.specs.Shapes.{shape_of}
-use Rattle.trees.specs.PlanAnswer.{plan_number, plan_outcome, levels_in, answer_outcome, levels_said, PlanIs}
-use Rattle.trees.specs.declared.plan.PlanAnswer.{PlanAnswer}
-use Rattle.trees.specs.declared.plan.PlanAnswer.TheVariants.{Levels, Refused}
-use Rattle.trees.specs.declared.plan.PlanRefusal.{PlanRefusal}
+use Rattle.trees.specs.PlanAnswer.{plan_outcome, levels_in, PlanIs}
 use Rattle.trees.specs.declared.plan.Planned.{Planned}
 use Rattle.plan_text.specs.declared.line.Request.{Request}
 use Rattle.plan_text.specs.Line.{request}
-use Rattle.plan_text.specs.Text.{decimal_from, decimal, blocks_word, level_word, number_line, level_line, level_lines, plan_lines, refused_line, other_line, plan_text, program_geometry, reply, answer_text}
+use Rattle.plan_text.specs.Text.{decimal_from, decimal, blocks_word, level_word, number_line, level_line, level_lines, plan_lines, refused_line, plan_text, program_geometry, reply, answer_text}
 
 from-small : (f n : ℕ) → n < 10 → decimal_from f n ≡ (48 + n) ∷ []
 unfolding decimal_from
@@ -182,22 +179,13 @@ length-plan levels = length-append (level_lines 0 levels) (number_line blocks_wo
 
 -- ---- what a plan's answer makes of its text
 
-module _ (o : Outcome (List ℕ)) (p : Planned) (is : PlanIs o p) where
-  pub text-refused : (r : PlanRefusal) → p.answer ≡ Refused r → plan_text o ≡ refused_line (plan_number r)
-  text-refused r e = ap plan_text (sym is.outcome) ∙ ap (λ (a : PlanAnswer). plan_text (answer_outcome a p.blocks)) e
+module _ (o : Outcome (List ℕ)) where
+  module _ (p : Planned) (is : PlanIs o (Ok p)) where
+    pub text-plan : plan_text o ≡ plan_lines (take p.levels p.blocks)
+    text-plan = ap plan_text (sym is.outcome)
 
-  module _ (n : ℕ) (e : p.answer ≡ Levels n) where
-    pub text-few : n ≤ 9
-    text-few = subst (λ (a : PlanAnswer). levels_said a ≤ 9) e is.few
-
-    outcome-is : done (take n p.blocks) ≡ o
-    outcome-is = ap (λ (a : PlanAnswer). answer_outcome a p.blocks) (sym e) ∙ is.outcome
-
-    pub text-plan : plan_text o ≡ plan_lines (take n p.blocks)
-    text-plan = ap plan_text (sym outcome-is)
-
-    pub text-total : p.total ≡ sum (take n p.blocks)
-    text-total = is.all ∙ ap (λ (x : Outcome (List ℕ)). sum (levels_in x)) (sym outcome-is)
+    pub text-total : p.total ≡ sum (take p.levels p.blocks)
+    text-total = is.all ∙ ap (λ (x : Outcome (List ℕ)). sum (levels_in x)) (sym is.outcome)
 
 -- ---- the answer to an input
 
@@ -209,10 +197,7 @@ size-large size h =
     refl
 
 module _ (input : List ℕ) where
-  pub answer-other : none ≡ request input → answer_text input ≡ other_line
-  answer-other e = ap reply (sym e)
-
-  module _ (r : Request) (e : some r ≡ request input) where
+  module _ (r : Request) (e : Some r ≡ request input) where
     pub answer-plan : answer_text input ≡ plan_text (plan_outcome (program_geometry r.blocksize) r.kind r.records)
     answer-plan = ap reply (sym e)
 
@@ -226,9 +211,6 @@ module _ (input : List ℕ) where
 module _ (l t l₁ : List ℕ) (n : ℕ) where
   abbrev pub Put : Type 0
   Put = ((n ≡ cond (leb 640 (length l)) (length t) 0) × (n ≤ 640)) × (l₁ ≡ cond (leb 640 (length l)) (with_bytes l 0 t) l)
-
-  pub put-short : length l < 640 → n ≡ 0 → l₁ ≡ l → Put
-  put-short h e f = rw (lt-leb 640 (length l) h) ((e, omega arith), f)
 
   pub put-long : 640 ≤ length l → n ≡ length t → n ≤ 640 → l₁ ≡ with_bytes l 0 t → Put
   put-long h e k f = rw (le-leb 640 (length l) h) ((e, k), f)

@@ -2,7 +2,7 @@
 -- ends the input.
 -- Assumes nothing.
 use Rattle.std.specs.Prelude.{ℕ, suc, ◌+◌, ◌-◌, ◌*◌, ◌≤◌, ◌≡◌, Bool, true, cond, ◌&&◌, List, [], ◌∷◌, ltb, leb, eqb, length, take, drop}
-use Rattle.std.proofs.Math.Option.{Option, none, some}
+use Rattle.std.specs.Prelude.{Option, None, Some}
 use Rattle.blocks.specs.declared.kind.TreeKind.{TreeKind}
 use Rattle.blocks.specs.declared.kind.TreeKind.TheVariants.{Rmap, Refcount}
 use Rattle.blocks.specs.Check.{same}
@@ -37,7 +37,7 @@ abbrev pub refcount_name : List ℕ
 refcount_name = 114 ∷ 101 ∷ 102 ∷ 99 ∷ 111 ∷ 117 ∷ 110 ∷ 116 ∷ []
 
 unfoldable pub kind_of : List ℕ → Option TreeKind
-kind_of name = cond (same name rmap_name) (some Rmap) (cond (same name refcount_name) (some Refcount) none)
+kind_of name = cond (same name rmap_name) (Some Rmap) (cond (same name refcount_name) (Some Refcount) None)
 
 -- 1 to 18 digits
 abbrev pub is_digit : ℕ → Bool
@@ -60,12 +60,12 @@ value l = value_from 0 l
 
 -- the three parts
 unfoldable pub request_of : Option TreeKind → List ℕ → List ℕ → Option Request
-request_of none size records = none
-request_of (some kind) size records =
-    cond (is_number size && is_number records) (some (record { kind = kind; blocksize = value size; records = value records })) none
+request_of None size records = None
+request_of (Some kind) size records =
+    cond (is_number size && is_number records) (Some (record { kind = kind; blocksize = value size; records = value records })) None
 
 unfoldable pub line_of : List ℕ → Option Request
-line_of l = cond (has_space l && has_space (rest l)) (request_of (kind_of (word l)) (word (rest l)) (rest (rest l))) none
+line_of l = cond (has_space l && has_space (rest l)) (request_of (kind_of (word l)) (word (rest l)) (rest (rest l))) None
 
 -- what the input asks for, if it is such a line
 abbrev pub request : List ℕ → Option Request
@@ -74,4 +74,4 @@ request input = line_of (chomp input)
 -- an input of 48 bytes or more asks for nothing: the longest line that asks for a plan has a name of 8 bytes, two numbers of 18 digits, two
 -- spaces and a newline. proofs/LongLines.antt proves it, with that line and one byte more as instances.
 abbrev pub LongAsksNothing : Type 0
-LongAsksNothing = (input : List ℕ) → 48 ≤ length input → request input ≡ none
+LongAsksNothing = (input : List ℕ) → 48 ≤ length input → request input ≡ None

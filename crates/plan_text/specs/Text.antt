@@ -1,7 +1,7 @@
 -- What the plan program prints, in ASCII.
 -- Assumes nothing.
 use Rattle.std.specs.Prelude.{ℕ, zero, suc, ◌+◌, ◌/◌, ◌%◌, ◌≤◌, ◌≡◌, cond, List, [], ◌∷◌, ◌++◌, leb, ltb, length, replicate, take}
-use Rattle.std.proofs.Math.Option.{Option, none, some}
+use Rattle.std.specs.Prelude.{Option, None, Some}
 use Rattle.codec.specs.Bytes.{with_bytes}
 use Rattle.codec.specs.Question.{Outcome, done, refused}
 use Rattle.blocks.specs.declared.geometry.Geometry.{Geometry}
@@ -65,8 +65,8 @@ abbrev pub program_geometry : ℕ → Geometry
 program_geometry size = record { version = 5; blocksize = size; agblocks = 0; agno = 0; meta_uuid = replicate 16 0; last_lsn = 0 }
 
 abbrev pub reply : Option Request → List ℕ
-reply (some r) = plan_text (plan_outcome (program_geometry r.blocksize) r.kind r.records)
-reply none = other_line
+reply (Some r) = plan_text (plan_outcome (program_geometry r.blocksize) r.kind r.records)
+reply None = other_line
 
 -- what the program prints for its input
 abbrev pub answer_text : List ℕ → List ℕ

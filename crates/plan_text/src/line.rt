@@ -1,9 +1,6 @@
 // The line that the plan program reads.
-ghost use Rattle.std.specs.Prelude.{◌≡◌, cond, ◌+◌, ◌*◌, ◌<◌, length};
-ghost use Rattle.std.proofs.Math.Option.{none, some};
-ghost use Rattle.blocks.specs.Check.{same};
-ghost use Rattle.plan_text.specs.Line.{space_at, kind_of, is_number, value, request_of, line_of, request};
-ghost use Rattle.plan_text.specs.Inner.Readings.{asked, number, named};
+ghost use Rattle.std.specs.Prelude.{◌≡◌, true, false, cond, MatchOption, Some, None, position, ◌==◌};
+ghost use Rattle.plan_text.specs.Line.{has_space, word, rest, kind_of, is_number, value, request_of, line_of, request};
 
 use blocks::kind::TreeKind;
 
@@ -15,144 +12,77 @@ pub(crate) struct Request {
     pub records: u64,
 }
 
-// What the input is: such a line, or any other input.
-#[derive(Clone, Copy)]
-pub(crate) enum Line {
-    Asked(Request),
-    Other,
-}
-
-#[derive(Clone, Copy)]
-enum Number {
-    Value(u64),
-    NotOne,
-}
-
-#[derive(Clone, Copy)]
-enum Name {
-    Tree(TreeKind),
-    Unknown,
-}
-
-// The place of the first space, or the length where there is none.
-fn space_at(s: &[u8]) -> usize
-    ensures { result ≡ space_at s.now }
+// The place of the first space.
+fn first_space(s: &[u8]) -> Option<usize>
+    ensures { result ≡ position (λ b. b == 32) s.now }
 {
-    let mut i = 0;
-    while i < s.len() {
-        if s[i] == 32 {
-            return i;
-        }
-        i += 1;
-    }
-    i
+    s.iter().position(|b| *b == b' ')
 }
 
-// Do the two hold the same bytes?
-fn is_word(s: &[u8], w: &[u8]) -> bool
-    ensures { result ≡ same s.now w.now }
+// What stands before the first space, and what stands after it.
+fn parted(s: &[u8]) -> Option<(&[u8], &[u8])>
+    ensures { MatchOption result (has_space s.now ≡ false) (λ p. (has_space s.now ≡ true) × (p.0.now ≡ word s.now) × (p.1.now ≡ rest s.now)) }
 {
-    if s.len() != w.len() {
-        return false;
-    }
-    let mut i = 0;
-    while i < s.len() {
-        if s[i] != w[i] {
-            return false;
-        }
-        i += 1;
-    }
-    true
+    let i = first_space(s)?;
+    Some((&s[..i], &s[i + 1..]))
 }
 
 // The tree of a name.
-fn kind_of(name: &[u8]) -> Name
-    ensures { named result ≡ kind_of name.now }
+fn kind_of(name: &[u8]) -> Option<TreeKind>
+    ensures { result ≡ kind_of name.now }
 {
-    if is_word(name, b"rmap") {
-        return Name::Tree(TreeKind::Rmap);
+    if name == b"rmap".as_slice() {
+        Some(TreeKind::Rmap)
+    } else if name == b"refcount".as_slice() {
+        Some(TreeKind::Refcount)
+    } else {
+        None
     }
-    if is_word(name, b"refcount") {
-        return Name::Tree(TreeKind::Refcount);
-    }
-    Name::Unknown
 }
 
 // The number of 1 to 18 digits.
-fn number_of(s: &[u8]) -> Number
-    ensures { number result ≡ cond (is_number s.now) (some (value s.now)) none }
+fn number_of(s: &[u8]) -> Option<u64>
+    ensures { result ≡ cond (is_number s.now) (Some (value s.now)) None }
 {
-    if s.len() == 0 {
-        return Number::NotOne;
-    }
-    if 18 < s.len() {
-        return Number::NotOne;
+    if s.is_empty() || 18 < s.len() {
+        return None;
     }
     let mut v: u64 = 0;
-    let mut i = 0;
-    while i < s.len() {
-        let b = s[i];
-        if b < 48 {
-            return Number::NotOne;
+    for b in s {
+        if !b.is_ascii_digit() {
+            return None;
         }
-        if 57 < b {
-            return Number::NotOne;
-        }
-        v = v * 10 + (b - 48) as u64;
-        i += 1;
+        v = v * 10 + (*b - b'0') as u64;
     }
-    Number::Value(v)
+    Some(v)
 }
 
 // The three parts of a line.
-fn request_of(name: &[u8], size: &[u8], count: &[u8]) -> Line
-    ensures { asked result ≡ request_of (kind_of name.now) size.now count.now }
+fn request_of(name: &[u8], size: &[u8], count: &[u8]) -> Option<Request>
+    ensures { result ≡ request_of (kind_of name.now) size.now count.now }
 {
-    let named = kind_of(name);
-    let Name::Tree(kind) = named else {
-        return Line::Other;
-    };
-    let first = number_of(size);
-    let Number::Value(blocksize) = first else {
-        return Line::Other;
-    };
-    let second = number_of(count);
-    let Number::Value(records) = second else {
-        return Line::Other;
-    };
-    Line::Asked(Request {
-        kind: kind,
-        blocksize: blocksize,
-        records: records,
+    let kind = kind_of(name)?;
+    let blocksize = number_of(size)?;
+    let records = number_of(count)?;
+    Some(Request {
+        kind,
+        blocksize,
+        records,
     })
 }
 
 // The line without its newline.
-fn line_of(s: &[u8]) -> Line
-    ensures { asked result ≡ line_of s.now }
+fn line_of(s: &[u8]) -> Option<Request>
+    ensures { result ≡ line_of s.now }
 {
-    let i = space_at(s);
-    if s.len() <= i {
-        return Line::Other;
-    }
-    let after = &s[i + 1..];
-    let j = space_at(after);
-    if after.len() <= j {
-        return Line::Other;
-    }
-    request_of(&s[..i], &after[..j], &after[j + 1..])
+    let (name, after) = parted(s)?;
+    let (size, count) = parted(after)?;
+    request_of(name, size, count)
 }
 
-// What the input asks for.
-pub(crate) fn read(input: &[u8]) -> Line
-    ensures { asked result ≡ request input.now }
+// What the input asks for, if it is such a line.
+pub(crate) fn read(input: &[u8]) -> Option<Request>
+    ensures { result ≡ request input.now }
 {
-    let n = input.len();
-    if n == 0 {
-        return line_of(input);
-    }
-    if input[n - 1] == 10 {
-        return line_of(&input[..n - 1]);
-    }
-    line_of(input)
+    line_of(input.strip_suffix(b"\n").unwrap_or(input))
 }

@@ -1,19 +1,20 @@
 // What the plan program prints, put into a buffer from a place on. Each answers the place behind it.
-ghost use Rattle.std.specs.Prelude.{◌≡◌, ◌+◌, ◌≤◌, ◌<◌, length, take};
+ghost use Rattle.std.specs.Prelude.{◌≡◌, ◌+◌, ◌≤◌, ◌<◌, length};
 ghost use Rattle.codec.specs.Bytes.{with_bytes};
 ghost use Rattle.trees.specs.PlanAnswer.{plan_outcome};
 ghost use Rattle.plan_text.specs.Text.{decimal, number_line, level_line, level_lines, plan_text, answer_length, answered};
 
-use crate::line::{Line, read};
+use crate::line::read;
 use blocks::geometry::Geometry;
 use blocks::kind::TreeKind;
 use codec::copy::copy;
-use trees::plan::{PlanAnswer, Planned, plan};
+use codec::refusal::Told;
+use trees::plan::plan;
 
 // No answer is longer than this.
 pub const ROOM: usize = 640;
 
-// A number in decimal.
+// A number in decimal. By hand: the library's `print_decimal` writes to a descriptor, and here the bytes and their number are promised.
 fn put_decimal(out: &mut [u8], at: usize, n: u64) -> usize
     requires { at + length (decimal n) ≤ length out.old }
     ensures value { result ≡ at + length (decimal n) }
@@ -52,16 +53,14 @@ fn put_level(out: &mut [u8], at: usize, level: u64, blocks: u64) -> usize
 }
 
 // The lines of the levels.
-fn put_levels(out: &mut [u8], blocks: [u64; 9], n: usize) -> usize
-    requires { (n ≤ 9) × (576 ≤ length out.old) }
-    ensures value { (result ≡ length (level_lines 0 (take n blocks))) × (result ≤ 576) }
-    ensures out_after { out.new ≡ with_bytes out.old 0 (level_lines 0 (take n blocks)) }
+fn put_levels(out: &mut [u8], blocks: &[u64]) -> usize
+    requires { (length blocks.now ≤ 9) × (576 ≤ length out.old) }
+    ensures value { (result ≡ length (level_lines 0 blocks.now)) × (result ≤ 576) }
+    ensures out_after { out.new ≡ with_bytes out.old 0 (level_lines 0 blocks.now) }
 {
     let mut at = 0;
-    let mut i = 0;
-    while i < n {
-        at = put_level(out, at, i as u64, blocks[i]);
-        i += 1;
+    for (i, &n) in blocks.iter().enumerate() {
+        at = put_level(out, at, i as u64, n);
     }
     at
 }
@@ -72,13 +71,10 @@ fn put_plan(out: &mut [u8], g: Geometry, kind: TreeKind, records: u64) -> usize
     ensures value { (result ≡ length (plan_text (plan_outcome g kind records))) × (result ≤ 640) }
     ensures out_after { out.new ≡ with_bytes out.old 0 (plan_text (plan_outcome g kind records)) }
 {
-    let planned = plan(g, kind, records);
-    let answer = planned.answer;
-    match answer {
-        PlanAnswer::Refused(why) => put_line(out, 0, b"refused ", why.told().number as u64),
-        PlanAnswer::Levels(n) => {
-            let blocks = planned.blocks;
-            let at = put_levels(out, blocks, n);
+    match plan(g, kind, records) {
+        Err(why) => put_line(out, 0, b"refused ", Told::from(why).number as u64),
+        Ok(planned) => {
+            let at = put_levels(out, &planned.blocks[..planned.levels]);
             put_line(out, at, b"blocks ", planned.total)
         }
     }
@@ -92,24 +88,20 @@ pub fn respond(input: &[u8], out: &mut [u8]) -> usize
     if out.len() < ROOM {
         return 0;
     }
-    let line = read(input);
-    let Line::Asked(request) = line else {
+    let Some(request) = read(input) else {
         copy(b"refused\n", out, 0);
         return 8;
     };
-    let blocksize = request.blocksize;
-    let kind = request.kind;
-    let records = request.records;
-    if 0xFFFF_FFFF < blocksize {
+    let Ok(blocksize) = u32::try_from(request.blocksize) else {
         return put_line(out, 0, b"refused ", 1);
-    }
+    };
     let g = Geometry {
         version: 5,
-        blocksize: blocksize as u32,
+        blocksize,
         agblocks: 0,
         agno: 0,
         meta_uuid: [0u8; 16],
         last_lsn: 0,
     };
-    put_plan(out, g, kind, records)
+    put_plan(out, g, request.kind, request.records)
 }

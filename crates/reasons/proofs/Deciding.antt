@@ -1,6 +1,7 @@
 -- The questions of an explanation out of those of its two halves: what the search for another record answers, and what the release of the counts.
 -- Assumes nothing.
-use Rattle.std.proofs.Common.{◌≡◌, ℕ, ◌/◌, ◌<◌, ◌≤◌, Bool, true, false, cond, ◌||◌, List, [], ◌∷◌, ◌++◌, length, sym, refl, ap, ◌∙◌, arith, le-ltb, lt-ltb}
+use Rattle.std.proofs.Common.{◌/◌, ◌<◌, ◌≤◌, ◌||◌, ◌∷◌, ◌++◌, ◌∙◌, ◌≡◌, ℕ, Bool, true, false, cond, List, [], length, sym, refl, ap, arith, le-ltb, lt-ltb}
+use Rattle.std.specs.Prelude.{Result, Ok, Err, Some, None, position}
 use Rattle.codec.specs.Question.{none, Outcome, done, refused, Question, ask, answer, map_outcome}
 use Rattle.codec.specs.Records.{records_of, bytes_of, rmaps, refcounts, free_extents}
 use Rattle.codec.specs.Accepted.{whole}
@@ -14,7 +15,6 @@ use Rattle.codec.proofs.RecordLists.{length-records_of}
 use Rattle.lists.specs.declared.EditRefusal.{EditRefusal}
 use Rattle.lists.specs.declared.EditRefusal.TheVariants as why
 use Rattle.lists.specs.declared.Lengths.{Lengths}
-use Rattle.lists.specs.declared.Released.TheVariants as released
 use Rattle.lists.specs.Extent.{over}
 use Rattle.lists.specs.RmapEdits.{index_where, contained, cut_at}
 use Rattle.lists.specs.Release.{clear}
@@ -25,14 +25,13 @@ use Rattle.lists.proofs.Cases.{split, tests, over-facts}
 use Rattle.groups.proofs.Asking.{answer-refused, answer-done, extent-good}
 use Rattle.reasons.specs.declared.explain.Why.{Why}
 use Rattle.reasons.specs.declared.explain.Why.TheVariants.{Free, HeldInMap, HeldInCounts, Staging}
-use Rattle.reasons.specs.Why.{map_over, shared_over, staged_over, index_but, stands, staged_at, held_of, why_of, deciding_bytes, explain_outcome}
+use Rattle.reasons.specs.Why.{map_over, shared_over, staged_over, index_but, staged_at, held_of, why_of, deciding_bytes, explain_outcome}
 use Rattle.reasons.specs.declared.explain.ExplainRefusal.{ExplainRefusal}
-use Rattle.reasons.specs.declared.explain.Explained.{Explained}
-use Rattle.reasons.specs.declared.explain.Explained.TheVariants.{Said, Refused}
 use Rattle.reasons.specs.Answer.{explain_number, explain_values, explained_outcome, number_said, Named, Explains}
 use Rattle.reasons.specs.Claims.{Covers}
 use Rattle.reasons.specs.Inner.Finding.{probe, other_before26}
 use Rattle.reasons.specs.Inner.Deciding.{staged_answer, held_answer, counts_answer}
+use Rattle.reasons.proofs.Places.{none-stands, some-stands}
 use Rattle.reasons.proofs.Explaining.{staged-clear, every-why}
 
 -- ---- the questions of the counts. Each letter is a question's truth: a, d the counts' list, k no staging, s a staging record over the block, o inside.
@@ -72,12 +71,6 @@ module _ {A B : Type 0} (size : A → B) (x : A) (staging held : Why) where
 
 -- ---- the searches' places
 
-in-counts : (counts : List ℕ) (i : ℕ) → i < length counts / 12 → stands i (records_of refcounts counts) ≡ true
-in-counts counts i h = lt-ltb i (length (records_of refcounts counts)) (omega (arith, length-records_of refcounts counts))
-
-past-counts : (counts : List ℕ) (i : ℕ) → length counts / 12 ≤ i → stands i (records_of refcounts counts) ≡ false
-past-counts counts i h = le-ltb i (length (records_of refcounts counts)) (omega (arith, length-records_of refcounts counts))
-
 module _ (map counts : List ℕ) (other b : ℕ) where
   abbrev m : List Rmap
   m = records_of rmaps map
@@ -85,31 +78,31 @@ module _ (map counts : List ℕ) (other b : ℕ) where
   abbrev c : List Refcount
   c = records_of refcounts counts
 
-  module _ (i : ℕ) (e : i ≡ index_where (shared_over b) c) where
-    pub free_now : length counts / 12 ≤ i → Free ≡ held_of other b m c
+  pub free_now : None ≡ position (shared_over b) c → Free ≡ held_of other b m c
+  unfolding held_of
+  free_now e = rw (none-stands (shared_over b) c e) refl
+
+  module _ (i : ℕ) (e : Some i ≡ position (shared_over b) c) where
+    pub held-in-map : other < length map / 24 → HeldInMap other ≡ held_of other b m c
     unfolding held_of
-    free_now h = rw (← e, past-counts counts i h) refl
+    held-in-map k = let s = some-stands (shared_over b) c i e in rw (s.0, lt-ltb other (length m) (omega (arith, length-records_of rmaps map))) refl
 
-    module _ (h : i < length counts / 12) where
-      pub held-in-map : other < length map / 24 → HeldInMap other ≡ held_of other b m c
-      unfolding held_of
-      held-in-map k = rw (← e, in-counts counts i h, lt-ltb other (length m) (omega (arith, length-records_of rmaps map))) refl
-
-      pub held-in-counts : length map / 24 ≤ other → HeldInCounts i ≡ held_of other b m c
-      unfolding held_of
-      held-in-counts k = rw (← e, in-counts counts i h, le-ltb other (length m) (omega (arith, length-records_of rmaps map))) refl
+    pub held-in-counts : length map / 24 ≤ other → HeldInCounts i ≡ held_of other b m c
+    unfolding held_of
+    held-in-counts k =
+        let s = some-stands (shared_over b) c i e in
+        rw (s.0, s.1, le-ltb other (length m) (omega (arith, length-records_of rmaps map))) refl
 
 module _ (counts : List ℕ) (x : Rmap) (b : ℕ) where
-  module _ (i : ℕ) (e : i ≡ index_where (staged_over b) (records_of refcounts counts)) where
-    pub staged-none : length counts / 12 ≤ i → refused 25 none ≡ staged_answer x b (records_of refcounts counts)
-    staged-none h = rw (← e, past-counts counts i h) refl
+  pub staged-none : None ≡ position (staged_over b) (records_of refcounts counts) → refused 25 none ≡ staged_answer x b (records_of refcounts counts)
+  staged-none e = rw (none-stands (staged_over b) (records_of refcounts counts) e) refl
 
-    module _ (h : i < length counts / 12) where
-      pub staged-outside : over x.startblock x.blockcount b ≡ false → refused 31 none ≡ staged_answer x b (records_of refcounts counts)
-      staged-outside f = rw (← e, in-counts counts i h, f) refl
+  module _ (i : ℕ) (e : Some i ≡ position (staged_over b) (records_of refcounts counts)) where
+    pub staged-outside : over x.startblock x.blockcount b ≡ false → refused 31 none ≡ staged_answer x b (records_of refcounts counts)
+    staged-outside f = rw ((some-stands (staged_over b) (records_of refcounts counts) i e).0, f) refl
 
-      pub staged-here : over x.startblock x.blockcount b ≡ true → done (Staging i) ≡ staged_answer x b (records_of refcounts counts)
-      staged-here f = rw (← e, in-counts counts i h, f) refl
+    pub staged-here : over x.startblock x.blockcount b ≡ true → done (Staging i) ≡ staged_answer x b (records_of refcounts counts)
+    staged-here f = let s = some-stands (staged_over b) (records_of refcounts counts) i e in rw (s.0, s.1, f) refl
 
   -- the arm of every refusal but 25
   pub refused-other : (q : EditRefusal) → (q ≡ why.Staging → ⊥) → refused (edit_number q) none ≡ counts_answer x b (records_of refcounts counts) q
@@ -192,7 +185,7 @@ module _ (map counts : List ℕ) (x : Rmap) (b : ℕ) where
     unfolding measure_outcome
     measure-is = rw (extent-good x held-is.0.1.1.0) refl
 
-    pub counts-refused : (q : EditRefusal) → released_outcome (released.Refused q) ≡ lengths_of (measure_outcome counts x.startblock x.blockcount)
+    pub counts-refused : (q : EditRefusal) → released_outcome (Err q) ≡ lengths_of (measure_outcome counts x.startblock x.blockcount)
         → counts_answer x b (records_of refcounts counts) q ≡ explain_outcome map counts x b
     counts-refused q e = by-refusal q (e ∙ ap lengths_of measure-is)
       where
@@ -201,7 +194,7 @@ module _ (map counts : List ℕ) (x : Rmap) (b : ℕ) where
         other n i f =
             list-refuses lengths (freed (records_of refcounts counts) x.startblock x.blockcount) staged held a d k s o n i f ∙ sym after_map
 
-        by-refusal : (q : EditRefusal) → released_outcome (released.Refused q) ≡ lengths_of (answer (ask 19 a ∷ ask 21 d ∷ ask 25 k ∷ []) (done (freed (records_of refcounts counts) x.startblock x.blockcount)))
+        by-refusal : (q : EditRefusal) → released_outcome (Err q) ≡ lengths_of (answer (ask 19 a ∷ ask 21 d ∷ ask 25 k ∷ []) (done (freed (records_of refcounts counts) x.startblock x.blockcount)))
             → counts_answer x b (records_of refcounts counts) q ≡ explain_outcome map counts x b
         by-refusal (why.List Length) f = other 19 (λ z. omega arith) f
         by-refusal (why.List RmapOrder) f = other 20 (λ z. omega arith) f
@@ -215,7 +208,7 @@ module _ (map counts : List ℕ) (x : Rmap) (b : ℕ) where
         by-refusal why.Unheld f = other 27 (λ z. omega arith) f
         by-refusal why.Owners f = other 28 (λ z. omega arith) f
 
-    pub counts-done : (n : Lengths) → released_outcome (released.Done n) ≡ lengths_of (measure_outcome counts x.startblock x.blockcount)
+    pub counts-done : (n : Lengths) → released_outcome (Ok n) ≡ lengths_of (measure_outcome counts x.startblock x.blockcount)
         → held_answer x i b (records_of rmaps map) (records_of refcounts counts) ≡ explain_outcome map counts x b
     counts-done n e =
         held-so ∙ none-refuses lengths (freed (records_of refcounts counts) x.startblock x.blockcount) staged held a d k s o n unstaged (e ∙ ap lengths_of measure-is) ∙ sym after_map
@@ -249,15 +242,15 @@ named_more (Staging i) m c m' c' h k n = omega arith
 
 -- ---- what is handed back and said
 
-module _ (map counts : List ℕ) (x : Rmap) (b : ℕ) (answer : Explained) where
-  pub explains-said : (w : Why) → answer ≡ Said w → explained_outcome answer ≡ explain_outcome map counts x b → (part : List ℕ) → part ≡ deciding_bytes map counts w
+module _ (map counts : List ℕ) (x : Rmap) (b : ℕ) (answer : Result Why ExplainRefusal) where
+  pub explains-said : (w : Why) → answer ≡ Ok w → explained_outcome answer ≡ explain_outcome map counts x b → (part : List ℕ) → part ≡ deciding_bytes map counts w
       → (n : ℕ) → n ≡ number_said (explained_outcome answer) → Explains map counts x b part n
   explains-said w e h part p n q =
       let o : explain_outcome map counts x b ≡ done w = sym h ∙ ap explained_outcome e in
-      rw o (record { part_is = p; said_is = q ∙ ap (λ (r : Explained). number_said (explained_outcome r)) e })
+      rw o (record { part_is = p; said_is = q ∙ ap (λ (r : Result Why ExplainRefusal). number_said (explained_outcome r)) e })
 
-  pub explains-refused : (r : ExplainRefusal) → answer ≡ Refused r → explained_outcome answer ≡ explain_outcome map counts x b
+  pub explains-refused : (r : ExplainRefusal) → answer ≡ Err r → explained_outcome answer ≡ explain_outcome map counts x b
       → (n : ℕ) → n ≡ number_said (explained_outcome answer) → Explains map counts x b [] n
   explains-refused r e h n q =
       let o : explain_outcome map counts x b ≡ refused (explain_number r) (explain_values r) = sym h ∙ ap explained_outcome e in
-      rw o (record { part_is = refl; said_is = q ∙ ap (λ (r : Explained). number_said (explained_outcome r)) e })
+      rw o (record { part_is = refl; said_is = q ∙ ap (λ (r : Result Why ExplainRefusal). number_said (explained_outcome r)) e })

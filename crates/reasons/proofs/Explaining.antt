@@ -1,6 +1,6 @@
 -- `EveryWhy`: the record named covers the block, the part handed back holds it, and the letting go answers so.
 -- Assumes nothing.
-use Rattle.std.proofs.Common.{◌≡◌, ℕ, suc, ◌+◌, ◌*◌, ◌/◌, ◌<◌, ◌≤◌, Bool, true, false, cond, not, ◌&&◌, ◌||◌, eqb, ltb, leb, List, [], ◌∷◌, length, get_or, sym, refl, ap, ◌∙◌, subst, inl, inr, le_trans, zero-add, div-mul-le_self, arith, le-ltb, lt-ltb, ne_eqb}
+use Rattle.std.proofs.Common.{◌≡◌, ◌+◌, ◌*◌, ◌/◌, ◌<◌, ◌≤◌, ◌&&◌, ◌||◌, ◌∷◌, ◌∙◌, ℕ, suc, Bool, true, false, cond, not, eqb, ltb, leb, List, [], length, get_or, sym, refl, ap, subst, inl, inr, le_trans, zero-add, div-mul-le_self, arith, le-ltb, lt-ltb, ne_eqb}
 use Rattle.codec.specs.Bytes.{bytes_at}
 use Rattle.codec.specs.Question.{none, done, refused}
 use Rattle.codec.specs.Records.{Kind, records_of, rmaps, refcounts}

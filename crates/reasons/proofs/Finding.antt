@@ -1,6 +1,6 @@
 -- Laws of the pass over the reverse map that finds the record cut and the first other record over a block.
 -- Assumes nothing.
-use Rattle.std.proofs.Common.{◌≡◌, ℕ, zero, suc, ◌+◌, ◌*◌, ◌/◌, ◌%◌, ◌<◌, ◌≤◌, Bool, true, false, cond, ◌&&◌, eqb, ltb, List, [], ◌∷◌, length, get_or, sym, refl, ap, ◌∙◌, arith, le-ltb, lt-ltb, eq-eqb, ne_eqb, eqb-true, le-leb}
+use Rattle.std.proofs.Common.{◌+◌, ◌*◌, ◌/◌, ◌%◌, ◌<◌, ◌≤◌, ◌&&◌, ◌∷◌, ◌∙◌, ◌≡◌, ℕ, zero, suc, Bool, true, false, cond, eqb, ltb, List, [], length, get_or, sym, refl, ap, arith, le-ltb, lt-ltb, eq-eqb, ne_eqb, eqb-true, le-leb}
 use borrow.Author.Tests.{eqb-false}
 use Rattle.codec.specs.Bytes.{bytes_at}
 use Rattle.codec.specs.Question.{none, done, refused}
@@ -19,7 +19,7 @@ use Rattle.lists.proofs.Removing.{strict_index, any_index, chosen-index, contain
 use Rattle.lists.proofs.Scanning.{read_at}
 use Rattle.reasons.specs.declared.scan.Found.{Found}
 use Rattle.reasons.specs.Why.{map_over, index_but}
-use Rattle.reasons.specs.Inner.Finding.{over_contains, over_aligned, second_over, Within, Noted, Finds, FoundIs, probe, other_before26}
+use Rattle.reasons.specs.Inner.Finding.{over_contains, over_aligned, second_over, Within, Noted, Finds, probe, other_before26}
 use Rattle.reasons.proofs.Tests.{over-before}
 use Rattle.reasons.proofs.Places.{but-passes}
 
@@ -107,7 +107,6 @@ module _ (p : Rmap → Bool) where
 pub noted-apart : (x : Rmap) (b : ℕ) (r : Rmap) (i n : ℕ) (s : Found) → map_over b r ≡ false → Within n s → Noted x b r i n s s
 noted-apart x b r i n s e h =
     record {
-      ordered = refl;
       aligned = rw e (note-none s.aligned n i h.0);
       containing = rw e (note-none s.containing n i h.1);
       first = rw e (note-none s.first n i h.2);
@@ -117,10 +116,9 @@ noted-apart x b r i n s e h =
 module _ (x : Rmap) (b : ℕ) (r : Rmap) (i n : ℕ) (s : Found) (a c f g : ℕ) (ta tc : Bool) where
   pub noted-over : map_over b r ≡ true → ta ≡ (contains x r && lines_up x r) → tc ≡ contains x r
       → a ≡ note_of s.aligned n i ta → c ≡ note_of s.containing n i tc → f ≡ note_of s.first n i true → g ≡ note_of s.second n i (ltb s.first n)
-      → Noted x b r i n s (record { ordered = s.ordered; aligned = a; containing = c; first = f; second = g })
+      → Noted x b r i n s (record { aligned = a; containing = c; first = f; second = g })
   noted-over e ea ec na nc nf ng =
       record {
-        ordered = refl;
         aligned = na ∙ rw (e, ea) refl;
         containing = nc ∙ rw (e, ec) refl;
         first = nf ∙ rw e refl;
@@ -131,17 +129,13 @@ module _ (x : Rmap) (b : ℕ) (r : Rmap) (i n : ℕ) (s : Found) (a c f g : ℕ)
 
 -- what there is among the first i records was found
 pub record Seen (x : Rmap) (k : ℕ) (b : List ℕ) (i : ℕ) (s : Found) : Type 0 where
-  pub ordered : s.ordered ≡ true
   pub aligned : s.aligned ≡ seen (index_where (over_aligned x k) (records_of rmaps b)) i (length b / 24)
   pub containing : s.containing ≡ seen (index_where (over_contains x k) (records_of rmaps b)) i (length b / 24)
   pub first : s.first ≡ seen (index_where (map_over k) (records_of rmaps b)) i (length b / 24)
   pub second : s.second ≡ seen (second_over k (records_of rmaps b)) i (length b / 24)
 
-pub found-bad : (x : Rmap) (k : ℕ) (l : List Rmap) (s : Found) → accepted l ≡ false → s.ordered ≡ false → FoundIs x k l s
-found-bad x k l s h o = record { ordered = o ∙ sym h; finds = λ t. absurd (let z : ◌≡◌ {A = ℕ} 0 1 = cc in omega arith) }
-
-pub found-start : (x : Rmap) (k : ℕ) (b : List ℕ) → Seen x k b 0 (record { ordered = true; aligned = length b / 24; containing = length b / 24; first = length b / 24; second = length b / 24 })
-found-start x k b = record { ordered = refl; aligned = seen_none _ _; containing = seen_none _ _; first = seen_none _ _; second = seen_none _ _ }
+pub found-start : (x : Rmap) (k : ℕ) (b : List ℕ) → Seen x k b 0 (record { aligned = length b / 24; containing = length b / 24; first = length b / 24; second = length b / 24 })
+found-start x k b = record { aligned = seen_none _ _; containing = seen_none _ _; first = seen_none _ _; second = seen_none _ _ }
 
 module _ (x : Rmap) (k : ℕ) (b : List ℕ) (i : ℕ) (s : Found) (seen-so : Seen x k b i s) where
   pub found_within : i ≤ length b / 24 → Within (length b / 24) s
@@ -152,25 +146,20 @@ module _ (x : Rmap) (k : ℕ) (b : List ℕ) (i : ℕ) (s : Found) (seen-so : Se
       let n = sym (length-records_of rmaps b) in
       let q = read_at b i r h d in
       record {
-        ordered = e.ordered ∙ seen-so.ordered;
         aligned = seen_next (over_aligned x k) (records_of rmaps b) i (length b / 24) _ _ r n h q seen-so.aligned e.aligned;
         containing = seen_next (over_contains x k) (records_of rmaps b) i (length b / 24) _ _ r n h q seen-so.containing e.containing;
         first = seen_next (map_over k) (records_of rmaps b) i (length b / 24) _ _ r n h q seen-so.first e.first;
         second = second-next (map_over k) (records_of rmaps b) i (length b / 24) _ _ s.first r n h q seen-so.first seen-so.second e.second;
       }
 
-  pub found-end : length b / 24 ≤ i → accepted (records_of rmaps b) ≡ true → FoundIs x k (records_of rmaps b) s
-  found-end h a =
+  pub found-end : length b / 24 ≤ i → Finds x k (records_of rmaps b) s
+  found-end h =
       let n = sym (length-records_of rmaps b) in
       record {
-        ordered = seen-so.ordered ∙ sym a;
-        finds = λ t.
-            record {
-              aligned = seen-so.aligned ∙ seen_all (over_aligned x k) (records_of rmaps b) i (length b / 24) n h;
-              containing = seen-so.containing ∙ seen_all (over_contains x k) (records_of rmaps b) i (length b / 24) n h;
-              first = seen-so.first ∙ seen_all (map_over k) (records_of rmaps b) i (length b / 24) n h;
-              second = seen-so.second ∙ second-all (map_over k) (records_of rmaps b) i (length b / 24) n h;
-            };
+        aligned = seen-so.aligned ∙ seen_all (over_aligned x k) (records_of rmaps b) i (length b / 24) n h;
+        containing = seen-so.containing ∙ seen_all (over_contains x k) (records_of rmaps b) i (length b / 24) n h;
+        first = seen-so.first ∙ seen_all (map_over k) (records_of rmaps b) i (length b / 24) n h;
+        second = seen-so.second ∙ second-all (map_over k) (records_of rmaps b) i (length b / 24) n h;
       }
 
 -- ---- the record cut: whatever contains x lies over each block of x
@@ -221,10 +210,7 @@ module _ (map : List ℕ) (x : Rmap) (b : ℕ) where
       unfolding other_before26 whole
       other-extent h = rw (eq-eqb (length map % 24) 0 whole_is, ordered, h) refl
 
-      module _ (extent : good x ≡ true) (s : Found) (f : FoundIs x (probe x b) m s) (cut : ℕ) (e : cut ≡ cond (ltb s.aligned (length map / 24)) s.aligned s.containing) where
-        found : Finds x (probe x b) m s
-        found = f.finds ordered
-
+      module _ (extent : good x ≡ true) (s : Found) (found : Finds x (probe x b) m s) (cut : ℕ) (e : cut ≡ cond (ltb s.aligned (length map / 24)) s.aligned s.containing) where
         cut-at : cut ≡ cut_at x m
         cut-at = cut-is x (probe x b) (probe-over x b extent) m s (length map / 24) cut (sym (length-records_of rmaps map)) found e
 

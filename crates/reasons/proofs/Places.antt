@@ -1,14 +1,15 @@
--- Laws of the first record that passes a test, by its place: that it passes, and how a loop finds it.
+-- Laws of the first record that passes a test, by its place: that it passes, and that the library's search of the chunks finds it.
 -- Assumes nothing.
-use Rattle.std.proofs.Common.{◌≡◌, ℕ, zero, suc, ◌+◌, ◌*◌, ◌/◌, ◌<◌, ◌≤◌, Bool, true, false, List, [], ◌∷◌, length, get_or, drop, refl, ap, ◌∙◌, add-one, arith}
-use lib.Seq.{drop-length}
+use Rattle.std.specs.List.{position, position_or_len}
+use Rattle.std.specs.Simd.{first_chunks}
+use Rattle.std.proofs.Common.{◌+◌, ◌/◌, ◌<◌, ◌∙◌, ◌≡◌, ℕ, zero, suc, Bool, true, false, cond, nat_lt, List, [], ◌∷◌, map, Some, None, length, get_or, drop, sym, refl, ap, ap₂, le_refl, arith}
+use Rattle.std.proofs.lemmas.List.{length-map, take-take}
 use Rattle.codec.specs.Bytes.{bytes_at}
-use Rattle.codec.specs.Records.{Kind, records_of}
-use Rattle.codec.proofs.RecordLists.{length-records_of, records_of-next}
+use Rattle.codec.specs.Records.{Kind, first_records, records_of}
 use Rattle.lists.specs.RmapEdits.{index_where}
 use Rattle.lists.proofs.Cases.{split}
 use Rattle.lists.proofs.Index.{index-hits}
-use Rattle.reasons.specs.Why.{index_but}
+use Rattle.reasons.specs.Why.{index_but, stands}
 
 -- the record found passes the test, and is another than the one left out
 pub but-passes : {R : Type 0} (p : R → Bool) (k : ℕ) (l : List R) (d : R) → index_but p k l < length l → (p (get_or l (index_but p k l) d) ≡ true) × (index_but p k l ≡ k → ⊥)
@@ -22,37 +23,48 @@ but-passes p (suc k) (r ∷ l) d h =
     let i = but-passes p k l d (omega arith) in
     rw e (i.0, λ q. i.1 (omega arith)))
 
--- ---- along the bytes of a list
+-- ---- the first record that passes a test, as the library says it
 
-module _ {R : Type 0} (kind : Kind R) (b : List ℕ) (p : R → Bool) where
-  abbrev l : List R
-  l = records_of kind b
+position-is : {R : Type 0} (p : R → Bool) (l : List R) → position_or_len p l ≡ index_where p l
+unfolding index_where
+position-is p [] = refl
+position-is p (r ∷ l) = split (p r) (λ e. rw e refl) (λ e. let q = position-is p l in rw e (omega arith))
 
-  abbrev n : ℕ
-  n = length b / kind.size
+module _ {R : Type 0} (p : R → Bool) (l : List R) where
+  place-is : position p l ≡ cond (stands (index_where p l) l) (Some (index_where p l)) None
+  place-is = ap (λ (i : ℕ). cond (stands i l) (Some i) None) (position-is p l)
 
-  -- none of the first i records passes
-  abbrev pub Passed : ℕ → Type 0
-  Passed i = (i ≤ n) × (index_where p l ≡ i + index_where p (drop i l))
+  pub none-stands : None ≡ position p l → stands (index_where p l) l ≡ false
+  none-stands e =
+      split (stands (index_where p l) l)
+      (λ t. let q : None ≡ Some (index_where p l) = e ∙ place-is ∙ rw t refl in absurd (let z : ◌≡◌ {A = ℕ} 0 1 = cc in omega arith))
+      (λ t. t)
 
-  pub begins : Passed 0
-  begins = (omega arith, omega arith)
+  pub some-stands : (i : ℕ) → Some i ≡ position p l → (stands (index_where p l) l ≡ true) × (index_where p l ≡ i)
+  some-stands i e =
+      split (stands (index_where p l) l)
+      (λ t. let q : Some i ≡ Some (index_where p l) = e ∙ place-is ∙ rw t refl in (t, cc))
+      (λ t. let q : Some i ≡ None = e ∙ place-is ∙ rw t refl in absurd (let z : ◌≡◌ {A = ℕ} 0 1 = cc in omega arith))
 
-  ended : (i : ℕ) → i ≤ n → n ≤ i → drop i l ≡ []
-  ended i h k = let e : i ≡ length l = omega (arith, length-records_of kind b) in rw e (drop-length l)
+-- ---- records in chunks of a list
 
-  pub ends : (i : ℕ) → Passed i → n ≤ i → n ≡ index_where p l
-  unfolding index_where
-  ends i h k = let e : index_where p l ≡ i + 0 = h.1 ∙ ap (λ (x : List R). i + index_where p x) (ended i h.0 k) in omega (arith, h.0)
+position-map : {R : Type 0} (f : List ℕ → R) (p : R → Bool) (l : List (List ℕ)) → position_or_len (λ c. p (f c)) l ≡ position_or_len p (map f l)
+position-map f p [] = refl
+position-map f p (c ∷ l) = split (p (f c)) (λ e. rw e refl) (λ e. rw e (ap (λ (n : ℕ). 1 + n) (position-map f p l)))
 
-  module _ (i : ℕ) (r : R) (inside : i < n) (read : r ≡ kind.decode (bytes_at b (i * kind.size) kind.size)) where
-    next : drop i l ≡ r ∷ drop (i + 1) l
-    next = rw (read, add-one, records_of-next kind b i inside) refl
+module _ {R : Type 0} (k : Kind R) where
+  -- what a chunk holds, as a call reads it
+  abbrev pub in_chunk : List ℕ → R
+  in_chunk c = k.decode (bytes_at c 0 k.size)
 
-    pub found : Passed i → p r ≡ true → i ≡ index_where p l
-    unfolding index_where
-    found h e = let q : index_where p l ≡ i + 0 = h.1 ∙ rw (next, e) refl in omega arith
+  chunks-first : (n : ℕ) (b : List ℕ) → map in_chunk (first_chunks k.size n b) ≡ first_records k n b
+  unfolding first_records bytes_at
+  chunks-first zero b = refl
+  chunks-first (suc n) b = ap₂ ◌∷◌ (ap k.decode (take-take k.size k.size b (le_refl k.size))) (chunks-first n (drop k.size b))
 
-    pub goes_on : Passed i → p r ≡ false → Passed (i + 1)
-    unfolding index_where
-    goes_on h e = (omega arith, let q : index_where p l ≡ i + suc (index_where p (drop (i + 1) l)) = h.1 ∙ rw (next, e) refl in omega arith)
+  pub position-chunks : (p : R → Bool) (b : List ℕ) (cs : List (List ℕ)) → cs ≡ first_chunks k.size (length b / k.size) b
+      → position (λ c. p (in_chunk c)) cs ≡ position p (records_of k b)
+  unfolding records_of
+  position-chunks p b cs e =
+      let q : map in_chunk cs ≡ first_records k (length b / k.size) b = ap (map in_chunk) e ∙ chunks-first (length b / k.size) b in
+      ap₂ (λ (i n : ℕ). cond (nat_lt i n) (Some i) None) (position-map in_chunk p cs) (sym (length-map cs in_chunk)) ∙ ap (position p) q

@@ -1,6 +1,6 @@
 -- Blocks of small lists explained: free, held, staging and refused; and what `EveryWhy` and `EveryHolder` say of some of them.
 -- Assumes nothing.
-use Rattle.std.proofs.Common.{◌≡◌, ℕ, ◌+◌, ◌^◌, List, [], ◌∷◌, refl, subst}
+use Rattle.std.proofs.Common.{◌≡◌, ◌+◌, ◌^◌, ◌∷◌, ℕ, List, [], refl, subst}
 use Rattle.codec.specs.Bytes as bytes
 use Rattle.codec.specs.Question.{none, done, refused}
 use Rattle.codec.specs.Records as records

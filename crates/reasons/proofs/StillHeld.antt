@@ -1,6 +1,6 @@
 -- `EveryHolder`: in lists that agree, a block said to be free has no holder left, and for one still held another record is named.
 -- Assumes nothing.
-use Rattle.std.proofs.Common.{◌≡◌, ℕ, zero, suc, ◌+◌, ◌<◌, ◌≤◌, Bool, true, false, cond, not, eqb, ltb, List, [], ◌∷◌, length, refl, ap, ◌∙◌, subst, arith, eqb-true}
+use Rattle.std.proofs.Common.{◌≡◌, ◌+◌, ◌<◌, ◌≤◌, ◌∷◌, ◌∙◌, ℕ, zero, suc, Bool, true, false, cond, not, eqb, ltb, List, [], length, refl, ap, subst, arith, eqb-true}
 use borrow.Author.Tests.{eqb-false}
 use Rattle.codec.specs.Records.{records_of, rmaps, refcounts}
 use Rattle.codec.specs.Refcounts as refcount

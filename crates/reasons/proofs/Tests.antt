@@ -1,13 +1,12 @@
 -- The tests of the searches, branch by branch.
 -- Assumes nothing.
-use Rattle.std.proofs.Common.{◌≡◌, ℕ, ◌+◌, ◌*◌, ◌/◌, ◌%◌, ◌^◌, ◌<◌, ◌≤◌, false, ltb, leb, sym, le_trans, div-mul-le_self, le-ltb, lt-ltb}
-use Rattle.codec.proofs.RecordLists.{inside}
+use Rattle.std.proofs.Common.{◌≡◌, ◌+◌, ◌%◌, ◌^◌, ◌<◌, ◌≤◌, ℕ, Bool, true, false, refl, ltb, leb, sym, le-ltb, lt-ltb}
+use mathlib.Core.Bool.{beq}
+use Rattle.codec.specs.Refcounts as refcount
+use Rattle.codec.specs.declared.refcount.Refcount.{Refcount}
 use Rattle.lists.specs.Extent.{over}
-use Rattle.lists.proofs.Cases.{split, tests, and-on, and-off}
-
-pub over-behind : (s c b : ℕ) → s + c ≤ b → false ≡ over s c b
-unfolding over
-over-behind s c b h = rw (le-ltb b (s + c) h) (sym (and-off (leb s b)))
+use Rattle.reasons.specs.Inner.Deciding.{count_over}
+use Rattle.lists.proofs.Cases.{split, tests, and-on}
 
 pub over-before : (s c b : ℕ) → b < s + c → leb s b ≡ over s c b
 unfolding over
@@ -21,6 +20,17 @@ over-wrapped s c b d h k l e =
     (λ t. rw t (split (ltb b (s + c)) (λ u. rw u (lt-ltb d c (omega tests))) (λ u. rw u (le-ltb d c (omega tests)))))
     (λ t. rw t (le-ltb d c (omega tests)))
 
--- the record at a place lies in the list
-pub record-inside : (size i n : ℕ) → i < n / size → i * size + size ≤ n
-record-inside size i n h = le_trans (inside size i (n / size) h) (div-mul-le_self n size)
+-- one test for both kinds of record: a shared count stores its block as it is
+same : (s t : Bool) → beq s t ≡ true → s ≡ t
+same true true e = refl
+same true false e = sym e
+same false true e = e
+same false false e = refl
+
+pub counts-over : (staging : Bool) (r : Refcount) (b : ℕ) → beq (refcount.staging r) staging ≡ true → over (refcount.block r) r.blockcount b ≡ count_over staging b r
+unfolding refcount.staging
+counts-over true r b e = rw (same (refcount.staging r) true e) refl
+counts-over false r b e =
+    let t : refcount.staging r ≡ false = same (refcount.staging r) false e in
+    let q : refcount.block r ≡ r.startblock = omega tests in
+    rw (t, q) refl

@@ -1,6 +1,6 @@
 -- The number and values of each refusal of an explanation (docs/QUESTIONS.md), and what the calls answer.
 -- Assumes nothing.
-use Rattle.std.specs.Prelude.{◌≡◌, ℕ, ◌<◌, List, []}
+use Rattle.std.specs.Prelude.{◌≡◌, ◌<◌, ℕ, List, [], Result, Ok, Err}
 use Rattle.codec.specs.Question.{Values, none, Outcome, done, refused}
 use Rattle.codec.specs.declared.rmap.Rmap.{Rmap}
 use Rattle.lists.specs.Answer.{edit_number, edit_values}
@@ -8,8 +8,6 @@ use Rattle.reasons.specs.declared.explain.Why.{Why}
 use Rattle.reasons.specs.declared.explain.Why.TheVariants.{Free, HeldInMap, HeldInCounts, Staging}
 use Rattle.reasons.specs.declared.explain.ExplainRefusal.{ExplainRefusal}
 use Rattle.reasons.specs.declared.explain.ExplainRefusal.TheVariants as why
-use Rattle.reasons.specs.declared.explain.Explained.{Explained}
-use Rattle.reasons.specs.declared.explain.Explained.TheVariants.{Said, Refused}
 use Rattle.reasons.specs.Why.{deciding_bytes, explain_outcome}
 
 abbrev pub explain_number : ExplainRefusal → ℕ
@@ -20,9 +18,9 @@ abbrev pub explain_values : ExplainRefusal → Values
 explain_values (why.Edit r) = edit_values r
 explain_values why.NotInExtent = none
 
-abbrev pub explained_outcome : Explained → Outcome Why
-explained_outcome (Said w) = done w
-explained_outcome (Refused r) = refused (explain_number r) (explain_values r)
+abbrev pub explained_outcome : Result Why ExplainRefusal → Outcome Why
+explained_outcome (Ok w) = done w
+explained_outcome (Err r) = refused (explain_number r) (explain_values r)
 
 -- ---- the answer as a number, and the part
 

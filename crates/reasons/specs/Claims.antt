@@ -1,7 +1,7 @@
 -- What is claimed of an explanation, `EveryWhy`: the record named covers the block, the part handed back holds it, and the letting go answers so.
 -- And what it says where the lists agree, `EveryHolder`: who holds the block afterwards.
 -- Assumes nothing.
-use Rattle.std.specs.Prelude.{◌≡◌, ℕ, ◌<◌, Bool, true, false, ◌⊎◌, List, [], length, ◌≢◌, slice_index_or}
+use Rattle.std.specs.Prelude.{◌≡◌, ◌<◌, ◌⊎◌, ◌≢◌, ℕ, Bool, true, false, List, [], length, slice_index_or}
 use Rattle.codec.specs.Question.{none, Outcome, done, refused}
 use Rattle.codec.specs.Records.{records_of, rmaps, refcounts}
 use Rattle.codec.specs.Rmaps as rmap

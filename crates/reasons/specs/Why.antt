@@ -1,6 +1,6 @@
 -- Why a block of a letting go is free now, still held, or staging, and the record that decides.
 -- Assumes nothing.
-use Rattle.std.specs.Prelude.{ℕ, zero, suc, ◌*◌, Bool, cond, not, ◌&&◌, ◌||◌, List, [], ◌∷◌, ◌++◌, length, nat_lt}
+use Rattle.std.specs.Prelude.{◌*◌, ◌&&◌, ◌||◌, ◌∷◌, ◌++◌, ℕ, zero, suc, Bool, cond, not, List, [], length, nat_lt}
 use Rattle.codec.specs.Bytes.{bytes_at}
 use Rattle.codec.specs.Question.{Outcome, done, Question, ask, answer}
 use Rattle.codec.specs.Records.{records_of, rmaps, refcounts}

@@ -1,44 +1,34 @@
 // One pass over a reverse map: question 20, the record that a letting go cuts, and the first record over a block other than that one.
-ghost use Rattle.std.specs.Prelude.{◌≡◌, true, ◌&&◌, if◌then◌else◌, nat_eq, nat_lt};
+ghost use Rattle.std.specs.Prelude.{if◌then◌else◌, ◌≡◌, ◌&&◌, true, nat_eq, nat_lt};
 ghost use Rattle.codec.specs.Records.{records_of, rmaps};
 ghost use Rattle.codec.specs.Rmaps.{good};
 ghost use Rattle.lists.specs.RmapEdits.{contains, lines_up};
 ghost use Rattle.reasons.specs.Why.{map_over};
-ghost use Rattle.reasons.specs.Inner.Finding.{probe, Within, Noted, FoundIs, other_before26, other_outcome};
+ghost use Rattle.lists.specs.Answer.{edited_outcome};
+ghost use Rattle.reasons.specs.Inner.Finding.{probe, Within, Noted, FoundIs, other_before26};
 
 use crate::find::over;
 use codec::check::ListRefusal;
 use codec::rmap::{RMAP_LEN, Rmap, decode, good};
 use lists::EditRefusal;
 use lists::search::{contains, lines_up, note, passes};
-use std::num::wrapping_sub_u32;
 
 // What a pass finds, each by its index, or the number of records where there is none. Of the records over a block: the first that contains the extent and
-// lines up with it, the first that contains it, the first of all, and the second.
+// lines up with it, the first that contains it, the first of all, and the second. They are numbers, no Options, as the definitions have them: two places are
+// compared, and where there is none both are the number of records.
 #[derive(Clone, Copy)]
 pub(crate) struct Found {
-    pub ordered: bool,
     pub aligned: usize,
     pub containing: usize,
     pub first: usize,
     pub second: usize,
 }
 
-// The index of the first record over a block other than the one cut, or the number of records.
-#[derive(Clone, Copy)]
-pub(crate) enum Other {
-    Refused(EditRefusal),
-    At(usize),
-}
-
 // Does r contain x and line up with it?
 fn contains_aligned(x: Rmap, r: Rmap) -> bool
     ensures { result ≡ (contains x r && lines_up x r) }
 {
-    if !contains(x, r) {
-        return false;
-    }
-    lines_up(x, r)
+    contains(x, r) && lines_up(x, r)
 }
 
 // Does the good record r lie over the block? One comparison tells: before the record the difference wraps, and is larger than any count.
@@ -46,7 +36,7 @@ fn is_over(r: Rmap, block: u32) -> bool
     requires { good r ≡ true }
     ensures { result ≡ map_over block r }
 {
-    wrapping_sub_u32(block, r.startblock) < r.blockcount
+    block.wrapping_sub(r.startblock) < r.blockcount
 }
 
 // What was found, with the record i. One that does not lie over the block is none of these.
@@ -58,7 +48,6 @@ fn noted(s: Found, x: Rmap, block: u32, r: Rmap, i: usize, n: usize) -> Found
         return s;
     }
     Found {
-        ordered: s.ordered,
         aligned: note(s.aligned, n, i, contains_aligned(x, r)),
         containing: note(s.containing, n, i, contains(x, r)),
         first: note(s.first, n, i, true),
@@ -66,8 +55,9 @@ fn noted(s: Found, x: Rmap, block: u32, r: Rmap, i: usize, n: usize) -> Found
     }
 }
 
-// A record is read before the one in front of it is tested, as in the scan of an edit: with no branch between its bytes they compile to whole loads.
-fn scan(map: &[u8], x: Rmap, block: u32) -> Found
+// The pass: nothing where the list is not in order. It is not the pass of `lists`, which finds other things of records that need not lie over a block: a pass by
+// closures of both would be no plainer.
+fn scan(map: &[u8], x: Rmap, block: u32) -> Option<Found>
     ensures { FoundIs x block (records_of rmaps map.now) result }
 {
     let n = map.len() / RMAP_LEN;
@@ -77,36 +67,21 @@ fn scan(map: &[u8], x: Rmap, block: u32) -> Found
         owner: 0,
         offset: 0,
     };
-    let mut r = prev;
-    if 0 < n {
-        r = decode(map, 0);
-    }
     let mut s = Found {
-        ordered: true,
         aligned: n,
         containing: n,
         first: n,
         second: n,
     };
-    let mut i = 0;
-    while i < n {
+    for i in 0..n {
+        let r = decode(map, i * RMAP_LEN);
         if !passes(prev, r) {
-            return Found {
-                ordered: false,
-                aligned: n,
-                containing: n,
-                first: n,
-                second: n,
-            };
+            return None;
         }
         s = noted(s, x, block, r, i, n);
         prev = r;
-        i += 1;
-        if i < n {
-            r = decode(map, i * RMAP_LEN);
-        }
     }
-    s
+    Some(s)
 }
 
 // A block of x to search by: the one given, or the first where that is none. Whatever contains x lies over it.
@@ -114,9 +89,10 @@ fn probe(x: Rmap, block: u32) -> u32
     ensures { result ≡ probe x block }
 {
     if over(x.startblock, x.blockcount, block) {
-        return block;
+        block
+    } else {
+        x.startblock
     }
-    x.startblock
 }
 
 // The record cut: the first that lines up, else the first that contains the extent; n where none does.
@@ -124,40 +100,37 @@ fn cut_of(s: Found, n: usize) -> usize
     ensures { result ≡ (if nat_lt s.aligned n then s.aligned else s.containing) }
 {
     if s.aligned < n {
-        return s.aligned;
+        s.aligned
+    } else {
+        s.containing
     }
-    s.containing
 }
 
 // The first record over the block other than the one cut.
 fn other_than(cut: usize, s: Found) -> usize
     ensures { result ≡ (if nat_eq s.first cut then s.second else s.first) }
 {
-    if s.first == cut {
-        return s.second;
-    }
-    s.first
+    if s.first == cut { s.second } else { s.first }
 }
 
-// The questions 19, 20, 22 and 24 of a letting go of x, then the first record over the block other than the one cut. Where the block is none of x it is the
-// first block of x that is searched by.
-pub(crate) fn find_other(map: &[u8], x: Rmap, block: u32) -> Other
-    ensures { other_outcome result ≡ other_before26 map.now x block }
+// The questions 19, 20, 22 and 24 of a letting go of x, then the index of the first record over the block other than the one cut, or the number of records.
+// Where the block is none of x it is the first block of x that is searched by.
+pub(crate) fn find_other(map: &[u8], x: Rmap, block: u32) -> Result<usize, EditRefusal>
+    ensures { edited_outcome result ≡ other_before26 map.now x block }
 {
     if map.len() % RMAP_LEN != 0 {
-        return Other::Refused(EditRefusal::List(ListRefusal::Length));
+        return Err(EditRefusal::List(ListRefusal::Length));
+    }
+    let Some(s) = scan(map, x, probe(x, block)) else {
+        return Err(EditRefusal::List(ListRefusal::RmapOrder));
+    };
+    if !good(x) {
+        return Err(EditRefusal::Extent);
     }
     let n = map.len() / RMAP_LEN;
-    let s = scan(map, x, probe(x, block));
-    if !s.ordered {
-        return Other::Refused(EditRefusal::List(ListRefusal::RmapOrder));
-    }
-    if !good(x) {
-        return Other::Refused(EditRefusal::Extent);
-    }
     let cut = cut_of(s, n);
     if n <= cut {
-        return Other::Refused(EditRefusal::Missing);
+        return Err(EditRefusal::Missing);
     }
-    Other::At(other_than(cut, s))
+    Ok(other_than(cut, s))
 }

@@ -4,16 +4,15 @@
 
 use codec::rmap::Rmap;
 use reasons::explain::explain;
-use show::lines::words;
+use show::lines::{newline, number, words};
 
 // One block asked about. What is said is written over a number that no explanation says.
 fn row<'a>(name: &[u8], map: &'a [u8], counts: &'a [u8], x: Rmap, block: u32) {
     let mut said = 0xEEEE;
     let record = explain(map, counts, x, block, &mut said);
     io::write_all(1, name);
-    io::write_all(1, b" ");
-    io::print_decimal(1, said as u64);
-    io::write_all(1, b"\n");
+    number(b" ", said as u64);
+    newline();
     words(record);
 }
 

@@ -3,15 +3,14 @@
 // and says how the cases were made.
 #![tactic(auto)]
 
-ghost use Rattle.std.specs.Prelude.{◌≡◌, length};
-
 use codec::endian::{be32, be64, put_be64};
 use list_calls::edits::{
     kf_insert, kf_insert_shared, kf_let_go, kf_release, kf_remove, kf_take_held,
 };
 use list_calls::explaining::kf_explain;
 use list_calls::sheet_calls::{kf_read_sheet, kf_write_sheet};
-use show::places::{all32, all64};
+use show::lines::{newline, number as print_number};
+use show::places::{filled, throughout};
 use tree_calls::block_calls::{kf_check_block, kf_crc32c, kf_crc32c_singly};
 use tree_calls::list_checks::{
     kf_check_by_block, kf_check_by_size, kf_check_refcounts, kf_check_rmaps, kf_same_extents,
@@ -19,12 +18,6 @@ use tree_calls::list_checks::{
 use tree_calls::whole_trees::{
     kf_build, kf_lookup, kf_plan, kf_walk, kf_walk_linked, kf_walk_textbook,
 };
-
-// A name, and a number in decimal.
-fn print_number(name: &[u8], n: u64) {
-    io::write_all(1, name);
-    io::print_decimal(1, n);
-}
 
 // Number i of some: each has 4 bytes.
 fn number(bytes: &[u8], i: usize) -> u32 {
@@ -61,24 +54,64 @@ fn take(buf: &mut [u8]) -> bool {
 
 // Does `buf` hold the bytes that come next in the case?
 fn as_due(buf: &[u8], due: &mut [u8]) -> bool {
-    let n = buf.len();
-    if due.len() < n {
+    let Some(part) = due.get_mut(..buf.len()) else {
         return false;
-    }
-    let part = &mut due[..n];
-    if !take(part) {
-        return false;
-    }
-    check::same(buf, part)
+    };
+    take(part) && *buf == *part
 }
 
-// Are the answer and the figures those of the case?
-fn said_as_due(head: &[u8], answer: u32, said: [u64; 4]) -> bool {
-    answer == number(head, 1)
-        && said[0] == wide(head, 2)
-        && said[1] == wide(head, 4)
-        && said[2] == wide(head, 6)
-        && said[3] == wide(head, 8)
+// A call that says four figures: are its answer and its figures those of the case?
+fn says_as_due<C: FnOnce(&mut [u64; 4]) -> u32>(head: &[u8], call: C) -> bool
+    requires { C.IsAlwaysCallable call }
+{
+    let mut said = [0xA5u64; 4];
+    let answer = call(&mut said);
+    let due = [wide(head, 2), wide(head, 4), wide(head, 6), wide(head, 8)];
+    answer == number(head, 1) && said == due
+}
+
+// The geometry of a case, and its kind of tree.
+#[derive(Clone, Copy)]
+struct Group {
+    version: u16,
+    blocksize: u32,
+    agblocks: u32,
+    agno: u32,
+    uuid_high: u64,
+    uuid_low: u64,
+    last_lsn: u64,
+    kind: u32,
+}
+
+fn group_of(head: &[u8]) -> Group {
+    Group {
+        version: narrow(head, 10),
+        blocksize: number(head, 11),
+        agblocks: number(head, 12),
+        agno: number(head, 13),
+        uuid_high: wide(head, 14),
+        uuid_low: wide(head, 16),
+        last_lsn: wide(head, 32),
+        kind: number(head, 18),
+    }
+}
+
+// The extent of a case.
+#[derive(Clone, Copy)]
+struct Extent {
+    start: u32,
+    count: u32,
+    owner: u64,
+    offset: u64,
+}
+
+fn extent_of(head: &[u8]) -> Extent {
+    Extent {
+        start: number(head, 19),
+        count: number(head, 20),
+        owner: wide(head, 21),
+        offset: wide(head, 23),
+    }
 }
 
 // The check, and questions 19 to 21.
@@ -95,216 +128,112 @@ fn on_list(head: &[u8], call: u32, list: &[u8]) -> bool {
 }
 
 fn on_two_lists(head: &[u8], by_block: &[u8], by_size: &[u8]) -> bool {
-    let mut said = [0xA5u64; 4];
-    let answer = kf_same_extents(by_block, by_size, &mut said);
-    said_as_due(head, answer, said)
+    says_as_due(head, |said| kf_same_extents(by_block, by_size, said))
 }
 
 fn on_block(head: &[u8], block: &[u8]) -> bool {
-    let mut said = [0xA5u64; 4];
-    let answer = kf_check_block(
-        narrow(head, 10),
-        number(head, 11),
-        number(head, 12),
-        number(head, 13),
-        wide(head, 14),
-        wide(head, 16),
-        wide(head, 32),
-        number(head, 18),
-        number(head, 19),
-        narrow(head, 20),
-        block,
-        &mut said,
-    );
-    said_as_due(head, answer, said)
+    let g = group_of(head);
+    says_as_due(head, |said| {
+        kf_check_block(
+            g.version,
+            g.blocksize,
+            g.agblocks,
+            g.agno,
+            g.uuid_high,
+            g.uuid_low,
+            g.last_lsn,
+            g.kind,
+            number(head, 19),
+            narrow(head, 20),
+            block,
+            said,
+        )
+    })
 }
 
 fn levels_as_due(due: &[u8], levels: [u64; 9]) -> bool {
-    levels[0] == wide(due, 0)
-        && levels[1] == wide(due, 2)
-        && levels[2] == wide(due, 4)
-        && levels[3] == wide(due, 6)
-        && levels[4] == wide(due, 8)
-        && levels[5] == wide(due, 10)
-        && levels[6] == wide(due, 12)
-        && levels[7] == wide(due, 14)
-        && levels[8] == wide(due, 16)
+    let blocks = [
+        wide(due, 0),
+        wide(due, 2),
+        wide(due, 4),
+        wide(due, 6),
+        wide(due, 8),
+        wide(due, 10),
+        wide(due, 12),
+        wide(due, 14),
+        wide(due, 16),
+    ];
+    levels == blocks
 }
 
 fn on_plan(head: &[u8], due: &[u8]) -> bool {
     let mut levels = [0xA5A5A5A5A5A5A5A5u64; 9];
-    let mut said = [0xA5u64; 4];
-    let answer = kf_plan(
-        narrow(head, 10),
-        number(head, 11),
-        number(head, 12),
-        number(head, 13),
-        wide(head, 14),
-        wide(head, 16),
-        wide(head, 32),
-        number(head, 18),
-        wide(head, 21),
-        &mut levels,
-        &mut said,
-    );
-    levels_as_due(due, levels) && said_as_due(head, answer, said)
+    let g = group_of(head);
+    let so = says_as_due(head, |said| {
+        kf_plan(
+            g.version,
+            g.blocksize,
+            g.agblocks,
+            g.agno,
+            g.uuid_high,
+            g.uuid_low,
+            g.last_lsn,
+            g.kind,
+            wide(head, 21),
+            &mut levels,
+            said,
+        )
+    });
+    levels_as_due(due, levels) && so
 }
 
 // Puts numbers of 4 bytes into a list.
 fn spread(bytes: &[u8], list: &mut [u32]) {
-    let mut i = 0;
-    while i < list.len() {
-        list[i] = number(bytes, i);
-        i += 1;
+    for (place, number) in list.iter_mut().zip(bytes.chunks_exact(4)) {
+        *place = be32(number, 0);
     }
-}
-
-fn build(head: &[u8], list: &[u8], numbers: &[u32], out: &mut [u8]) -> bool {
-    let mut said = [0xA5u64; 4];
-    let answer = kf_build(
-        narrow(head, 10),
-        number(head, 11),
-        number(head, 12),
-        number(head, 13),
-        wide(head, 14),
-        wide(head, 16),
-        wide(head, 32),
-        number(head, 18),
-        list,
-        numbers,
-        out,
-        &mut said,
-    );
-    said_as_due(head, answer, said)
 }
 
 fn on_build(head: &[u8], list: &[u8], bytes: &[u8], out: &mut [u8], all: &mut [u32]) -> bool {
-    let n = bytes.len() / 4;
-    if all.len() < n {
+    let Some(numbers) = all.get_mut(..bytes.len() / 4) else {
         return false;
-    }
-    let numbers = &mut all[..n];
+    };
     spread(bytes, numbers);
-    build(head, list, numbers, out)
+    let g = group_of(head);
+    says_as_due(head, |said| {
+        kf_build(
+            g.version,
+            g.blocksize,
+            g.agblocks,
+            g.agno,
+            g.uuid_high,
+            g.uuid_low,
+            g.last_lsn,
+            g.kind,
+            list,
+            numbers,
+            out,
+            said,
+        )
+    })
 }
 
+// Are these the numbers of 4 bytes?
 fn numbers_as_due(list: &[u32], due: &[u8]) -> bool {
-    let mut i = 0;
-    while i < list.len() {
-        if list[i] != number(due, i) {
+    for (number, bytes) in list.iter().zip(due.chunks_exact(4)) {
+        if *number != be32(bytes, 0) {
             return false;
         }
-        i += 1;
     }
     true
 }
 
-// The textbook walk of a case.
-fn textbook_by(
-    head: &[u8],
-    image: &[u8],
-    scratch: &mut [u64],
-    blocks: &mut [u32],
-    records: &mut [u8],
-    said: &mut [u64; 4],
-) -> u32 {
-    kf_walk_textbook(
-        narrow(head, 10),
-        number(head, 11),
-        number(head, 12),
-        number(head, 13),
-        wide(head, 14),
-        wide(head, 16),
-        wide(head, 32),
-        number(head, 18),
-        image,
-        number(head, 19),
-        number(head, 20),
-        scratch,
-        blocks,
-        records,
-        said,
-    )
+// What a call leaves in the scratch of a case: zeros, or what was there before it.
+fn left_by(head: &[u8]) -> u32 {
+    if number(head, 29) == 0 { 0xA5A5A5A5 } else { 0 }
 }
 
-// The walk of a case that asks about links too.
-fn linked_by(
-    head: &[u8],
-    image: &[u8],
-    stack: &mut [u32],
-    scratch: &mut [u64],
-    blocks: &mut [u32],
-    records: &mut [u8],
-    said: &mut [u64; 4],
-) -> u32 {
-    kf_walk_linked(
-        narrow(head, 10),
-        number(head, 11),
-        number(head, 12),
-        number(head, 13),
-        wide(head, 14),
-        wide(head, 16),
-        wide(head, 32),
-        number(head, 18),
-        image,
-        number(head, 19),
-        number(head, 20),
-        stack,
-        scratch,
-        blocks,
-        records,
-        said,
-    )
-}
-
-// The walk of a case over a stack.
-fn stack_by(
-    head: &[u8],
-    image: &[u8],
-    stack: &mut [u32],
-    scratch: &mut [u64],
-    blocks: &mut [u32],
-    records: &mut [u8],
-    said: &mut [u64; 4],
-) -> u32 {
-    kf_walk(
-        narrow(head, 10),
-        number(head, 11),
-        number(head, 12),
-        number(head, 13),
-        wide(head, 14),
-        wide(head, 16),
-        wide(head, 32),
-        number(head, 18),
-        image,
-        number(head, 19),
-        number(head, 20),
-        stack,
-        scratch,
-        blocks,
-        records,
-        said,
-    )
-}
-
-// The walk of a case, by whichever of the three calls it is.
-fn walk_by(
-    head: &[u8],
-    image: &[u8],
-    stack: &mut [u32],
-    scratch: &mut [u64],
-    blocks: &mut [u32],
-    records: &mut [u8],
-    said: &mut [u64; 4],
-) -> u32 {
-    match number(head, 0) {
-        22 | 23 => textbook_by(head, image, scratch, blocks, records, said),
-        16 | 17 => linked_by(head, image, stack, scratch, blocks, records, said),
-        _ => stack_by(head, image, stack, scratch, blocks, records, said),
-    }
-}
-
-// A walk, and what it leaves in both scratches: zeros, or what was there before it.
+// A walk by whichever of the three calls it is, and what it leaves in both scratches.
 fn walk(
     head: &[u8],
     image: &[u8],
@@ -314,65 +243,81 @@ fn walk(
     blocks: &mut [u32],
     records: &mut [u8],
 ) -> bool {
-    let mut said = [0xA5u64; 4];
-    let answer = walk_by(head, image, stack, scratch, blocks, records, &mut said);
-    let left = if number(head, 29) == 0 {
-        0xA5A5A5A5u32
-    } else {
-        0
-    };
-    all32(stack, left)
-        && all64(scratch, left as u64)
-        && numbers_as_due(blocks, due)
-        && said_as_due(head, answer, said)
+    let g = group_of(head);
+    let root = number(head, 19);
+    let levels = number(head, 20);
+    let so = says_as_due(head, |said| match number(head, 0) {
+        22 | 23 => kf_walk_textbook(
+            g.version,
+            g.blocksize,
+            g.agblocks,
+            g.agno,
+            g.uuid_high,
+            g.uuid_low,
+            g.last_lsn,
+            g.kind,
+            image,
+            root,
+            levels,
+            scratch,
+            blocks,
+            records,
+            said,
+        ),
+        16 | 17 => kf_walk_linked(
+            g.version,
+            g.blocksize,
+            g.agblocks,
+            g.agno,
+            g.uuid_high,
+            g.uuid_low,
+            g.last_lsn,
+            g.kind,
+            image,
+            root,
+            levels,
+            stack,
+            scratch,
+            blocks,
+            records,
+            said,
+        ),
+        _ => kf_walk(
+            g.version,
+            g.blocksize,
+            g.agblocks,
+            g.agno,
+            g.uuid_high,
+            g.uuid_low,
+            g.last_lsn,
+            g.kind,
+            image,
+            root,
+            levels,
+            stack,
+            scratch,
+            blocks,
+            records,
+            said,
+        ),
+    });
+    let left = left_by(head);
+    throughout(stack, left) && throughout(scratch, left as u64) && numbers_as_due(blocks, due) && so
 }
 
 // A walk, with stack, scratch and block list of the lengths that the case says.
-fn walk_lent(
-    head: &[u8],
-    image: &[u8],
-    due: &[u8],
-    records: &mut [u8],
-    stack: &mut [u32],
-    scratch: &mut [u64],
-    blocks: &mut [u32],
-) -> bool {
-    let n = due.len() / 4;
-    let s = number(head, 30) as usize;
-    let w = number(head, 31) as usize;
-    if stack.len() < s {
-        return false;
-    }
-    if scratch.len() < w {
-        return false;
-    }
-    if blocks.len() < n {
-        return false;
-    }
-    walk(
-        head,
-        image,
-        due,
-        &mut stack[..s],
-        &mut scratch[..w],
-        &mut blocks[..n],
-        records,
-    )
-}
-
 fn on_walk(head: &[u8], image: &[u8], due: &[u8], records: &mut [u8]) -> bool {
     let mut stack = [0xA5A5A5A5u32; 4096];
     let mut scratch = [0xA5A5A5A5u64; 512];
     let mut blocks = [0xA5A5A5A5u32; 512];
-    walk_lent(
-        head,
-        image,
-        due,
-        records,
-        &mut stack,
-        &mut scratch,
-        &mut blocks,
-    )
+    let (Some(stack), Some(scratch), Some(blocks)) = (
+        stack.get_mut(..number(head, 30) as usize),
+        scratch.get_mut(..number(head, 31) as usize),
+        blocks.get_mut(..due.len() / 4),
+    ) else {
+        return false;
+    };
+    walk(head, image, due, stack, scratch, blocks, records)
 }
 
 // Reads a block to its place in an image, which comes before its bytes.
@@ -382,59 +327,37 @@ fn take_block(image: &mut [u8], size: u32) -> bool {
         return false;
     }
     let at = number(&bytes, 0) as usize;
-    let end = at + (size as usize);
-    if image.len() < end {
-        return false;
+    match image.get_mut(at..at + (size as usize)) {
+        Some(block) => take(block),
+        None => false,
     }
-    take(&mut image[at..end])
 }
 
 fn take_blocks(image: &mut [u8], size: u32, n: u32) -> bool {
-    let mut i = 0;
-    while i < n {
+    for _ in 0..n {
         if !take_block(image, size) {
             return false;
         }
-        i += 1;
     }
     true
 }
 
-// An image of zeros, 1,460 blocks of 2,048 bytes long.
-fn blank() -> [u8; 2990080]
-    ensures { 2990080 ≡ length result }
-{
-    [0; 2990080]
-}
-
 // A walk over the image of a real group, whose blocks are given one by one.
 fn on_real_walk(head: &[u8], due: &[u8], records: &mut [u8]) -> bool {
-    let mut image = blank();
-    if !take_blocks(&mut image, number(head, 11), number(head, 21)) {
-        return false;
-    }
-    on_walk(head, &image, due, records)
+    // 1,460 blocks of 2,048 bytes
+    let mut image = filled::<u8, 2990080>(0);
+    take_blocks(&mut image, number(head, 11), number(head, 21))
+        && on_walk(head, &image, due, records)
 }
 
-// Answer i of a lookup as 8 bytes, for which there is room.
-fn put_answer(out: &mut [u8], i: usize, n: u64) {
-    if i < 0x1_0000_0000 {
-        let at = i * 8;
-        if at + 8 <= out.len() {
-            put_be64(out, at, n);
-        }
-    }
-}
-
+// The answers of a lookup as 8 bytes each, as many as there is room for.
 fn put_answers(answers: &[u64], out: &mut [u8]) {
-    let mut i = 0;
-    while i < answers.len() {
-        put_answer(out, i, answers[i]);
-        i += 1;
+    for (place, answer) in out.chunks_exact_mut(8).zip(answers) {
+        put_be64(place, 0, *answer);
     }
 }
 
-// A lookup, and what it leaves on the stack: zeros, or what was there before it.
+// A lookup, and what it leaves on the stack.
 fn lookup(
     head: &[u8],
     image: &[u8],
@@ -442,95 +365,59 @@ fn lookup(
     stack: &mut [u32],
     answers: &mut [u64],
 ) -> bool {
-    let mut said = [0xA5u64; 4];
-    let answer = kf_lookup(
-        narrow(head, 10),
-        number(head, 11),
-        number(head, 12),
-        number(head, 13),
-        wide(head, 14),
-        wide(head, 16),
-        wide(head, 32),
-        image,
-        number(head, 19),
-        number(head, 20),
-        asked,
-        stack,
-        answers,
-        &mut said,
-    );
-    let left = if number(head, 29) == 0 {
-        0xA5A5A5A5u32
-    } else {
-        0
-    };
-    all32(stack, left) && said_as_due(head, answer, said)
+    let g = group_of(head);
+    let so = says_as_due(head, |said| {
+        kf_lookup(
+            g.version,
+            g.blocksize,
+            g.agblocks,
+            g.agno,
+            g.uuid_high,
+            g.uuid_low,
+            g.last_lsn,
+            image,
+            number(head, 19),
+            number(head, 20),
+            asked,
+            stack,
+            answers,
+            said,
+        )
+    });
+    throughout(stack, left_by(head)) && so
 }
 
 // A lookup, with stack and answers of the lengths that the case says.
-fn lookup_lent(
-    head: &[u8],
-    image: &[u8],
-    asked: &[u32],
-    out: &mut [u8],
-    stack: &mut [u32],
-    answers: &mut [u64],
-) -> bool {
-    let s = number(head, 30) as usize;
-    let n = out.len() / 8;
-    if stack.len() < s {
-        return false;
-    }
-    if answers.len() < n {
-        return false;
-    }
-    let places = &mut answers[..n];
-    let so = lookup(head, image, asked, &mut stack[..s], places);
-    put_answers(places, out);
-    so
-}
-
 fn on_lookup(head: &[u8], image: &[u8], bytes: &[u8], out: &mut [u8], all: &mut [u32]) -> bool {
     let mut stack = [0xA5A5A5A5u32; 4096];
     let mut answers = [0xA5A5A5A5A5A5A5A5u64; 64];
-    let n = bytes.len() / 4;
-    if all.len() < n {
+    let (Some(asked), Some(stack), Some(answers)) = (
+        all.get_mut(..bytes.len() / 4),
+        stack.get_mut(..number(head, 30) as usize),
+        answers.get_mut(..out.len() / 8),
+    ) else {
         return false;
-    }
-    let asked = &mut all[..n];
+    };
     spread(bytes, asked);
-    lookup_lent(head, image, asked, out, &mut stack, &mut answers)
+    let so = lookup(head, image, asked, stack, answers);
+    put_answers(answers, out);
+    so
 }
 
 fn on_edit(head: &[u8], call: u32, old: &[u8], new: &mut [u8]) -> bool {
-    let start = number(head, 19);
-    let count = number(head, 20);
-    let owner = wide(head, 21);
-    let offset = wide(head, 23);
-    let mut said = [0xA5u64; 4];
-    if call == 8 {
-        let answer = kf_insert(old, start, count, owner, offset, new, &mut said);
-        return said_as_due(head, answer, said);
-    }
-    if call == 9 {
-        let answer = kf_insert_shared(old, start, count, owner, offset, new, &mut said);
-        return said_as_due(head, answer, said);
-    }
-    let answer = kf_remove(old, start, count, owner, offset, new, &mut said);
-    said_as_due(head, answer, said)
+    let x = extent_of(head);
+    says_as_due(head, |said| match call {
+        8 => kf_insert(old, x.start, x.count, x.owner, x.offset, new, said),
+        9 => kf_insert_shared(old, x.start, x.count, x.owner, x.offset, new, said),
+        _ => kf_remove(old, x.start, x.count, x.owner, x.offset, new, said),
+    })
 }
 
 fn on_release(head: &[u8], old: &[u8], new: &mut [u8], free: &mut [u8]) -> bool {
-    let mut said = [0xA5u64; 4];
-    let answer = kf_release(
-        old,
-        number(head, 19),
-        number(head, 20),
-        new,
-        free,
-        &mut said,
-    );
-    said_as_due(head, answer, said)
+    let x = extent_of(head);
+    says_as_due(head, |said| {
+        kf_release(old, x.start, x.count, new, free, said)
+    })
 }
 
 fn on_let_go(
@@ -541,20 +428,12 @@ fn on_let_go(
     new_counts: &mut [u8],
     free: &mut [u8],
 ) -> bool {
-    let mut said = [0xA5u64; 4];
-    let answer = kf_let_go(
-        map,
-        counts,
-        number(head, 19),
-        number(head, 20),
-        wide(head, 21),
-        wide(head, 23),
-        new_map,
-        new_counts,
-        free,
-        &mut said,
-    );
-    said_as_due(head, answer, said)
+    let x = extent_of(head);
+    says_as_due(head, |said| {
+        kf_let_go(
+            map, counts, x.start, x.count, x.owner, x.offset, new_map, new_counts, free, said,
+        )
+    })
 }
 
 fn on_take_held(
@@ -564,48 +443,40 @@ fn on_take_held(
     new_map: &mut [u8],
     new_counts: &mut [u8],
 ) -> bool {
-    let mut said = [0xA5u64; 4];
-    let answer = kf_take_held(
-        map,
-        counts,
-        number(head, 19),
-        number(head, 20),
-        wide(head, 21),
-        wide(head, 23),
-        new_map,
-        new_counts,
-        &mut said,
-    );
-    said_as_due(head, answer, said)
+    let x = extent_of(head);
+    says_as_due(head, |said| {
+        kf_take_held(
+            map, counts, x.start, x.count, x.owner, x.offset, new_map, new_counts, said,
+        )
+    })
 }
 
 fn on_explain(head: &[u8], map: &[u8], counts: &[u8]) -> bool {
-    let mut said = [0xA5u64; 4];
-    let answer = kf_explain(
-        map,
-        counts,
-        number(head, 19),
-        number(head, 20),
-        wide(head, 21),
-        wide(head, 23),
-        number(head, 30),
-        &mut said,
-    );
-    said_as_due(head, answer, said)
+    let x = extent_of(head);
+    says_as_due(head, |said| {
+        kf_explain(
+            map,
+            counts,
+            x.start,
+            x.count,
+            x.owner,
+            x.offset,
+            number(head, 30),
+            said,
+        )
+    })
 }
 
 // A sheet read, or written.
 fn on_sheet(head: &[u8], call: u32, given: &[u8], out: &mut [u8]) -> bool {
-    let mut said = [0xA5u64; 4];
-    if call == 25 {
-        let answer = kf_read_sheet(given, out, &mut said);
-        return said_as_due(head, answer, said);
-    }
-    let answer = kf_write_sheet(given, out, &mut said);
-    said_as_due(head, answer, said)
+    says_as_due(head, |said| match call {
+        25 => kf_read_sheet(given, out, said),
+        _ => kf_write_sheet(given, out, said),
+    })
 }
 
-// The call of a case on its two inputs and three outputs: are answer and figures the same, and what is not in an output?
+// The call of a case on its two inputs and three outputs: are answer and figures the same, and what is not in an output? The numbers of the calls are those
+// of a case (docs/REPLAY.md).
 fn call_as_due(
     head: &[u8],
     a: &[u8],
@@ -646,79 +517,19 @@ fn replay(
     list: &mut [u32],
     due: &mut [u8],
 ) -> bool {
-    if !take(a) {
-        return false;
-    }
-    if !take(b) {
-        return false;
-    }
-    if !call_as_due(head, a, b, x, y, z, list) {
-        return false;
-    }
-    if !as_due(x, due) {
-        return false;
-    }
-    if !as_due(y, due) {
-        return false;
-    }
-    as_due(z, due)
+    take(a)
+        && take(b)
+        && call_as_due(head, a, b, x, y, z, list)
+        && as_due(x, due)
+        && as_due(y, due)
+        && as_due(z, due)
 }
 
-fn replay_within(
-    head: &[u8],
-    a: &mut [u8],
-    b: &mut [u8],
-    x: &mut [u8],
-    y: &mut [u8],
-    z: &mut [u8],
-    list: &mut [u32],
-    due: &mut [u8],
-) -> bool {
-    let la = number(head, 25) as usize;
-    let lb = number(head, 26) as usize;
-    let lx = number(head, 27) as usize;
-    let ly = number(head, 28) as usize;
-    let lz = if number(head, 0) == 12 {
-        number(head, 29) as usize
-    } else {
-        0
-    };
-    if a.len() < la {
-        return false;
-    }
-    if b.len() < lb {
-        return false;
-    }
-    if x.len() < lx {
-        return false;
-    }
-    if y.len() < ly {
-        return false;
-    }
-    if z.len() < lz {
-        return false;
-    }
-    replay(
-        head,
-        &mut a[..la],
-        &mut b[..lb],
-        &mut x[..lx],
-        &mut y[..ly],
-        &mut z[..lz],
-        list,
-        due,
-    )
-}
-
-// Replays the next case: 0 where there is none, 1 where something differs, 2 where all is the same. What follows a case that differs is not
-// read.
-fn next() -> u8 {
+// Replays the next case, if there is one: is all the same? What follows a case that differs is not read.
+fn next() -> Option<bool> {
     let mut head = [0u8; 136];
-    if !take(&mut head) {
-        return 0;
-    }
-    if number(&head, 0) == 0 {
-        return 0;
+    if !take(&mut head) || number(&head, 0) == 0 {
+        return None;
     }
     let mut a = [0u8; 16384];
     let mut b = [0u8; 8192];
@@ -727,34 +538,36 @@ fn next() -> u8 {
     let mut z = [0xA5u8; 8192];
     let mut list = [0u32; 64];
     let mut due = [0u8; 16384];
-    if replay_within(
-        &head, &mut a, &mut b, &mut x, &mut y, &mut z, &mut list, &mut due,
-    ) {
-        2
+    let lz = if number(&head, 0) == 12 {
+        number(&head, 29) as usize
     } else {
-        1
-    }
+        0
+    };
+    let (Some(a), Some(b), Some(x), Some(y), Some(z)) = (
+        a.get_mut(..number(&head, 25) as usize),
+        b.get_mut(..number(&head, 26) as usize),
+        x.get_mut(..number(&head, 27) as usize),
+        y.get_mut(..number(&head, 28) as usize),
+        z.get_mut(..lz),
+    ) else {
+        return Some(false);
+    };
+    Some(replay(&head, a, b, x, y, z, &mut list, &mut due))
 }
 
 fn show(cases: u64, same: u64) {
     print_number(b"cases ", cases);
     print_number(b" same ", same);
-    io::write_all(1, b"\n");
+    newline();
 }
 
 fn main() {
-    let mut cases: u64 = 0;
-    let mut same: u64 = 0;
-    while cases < 100000 {
-        let found = next();
-        if found == 0 {
-            break;
+    for n in 0..100000u64 {
+        match next() {
+            None => return show(n, n),
+            Some(false) => return show(n + 1, n),
+            Some(true) => {}
         }
-        cases += 1;
-        if found == 1 {
-            break;
-        }
-        same += 1;
     }
-    show(cases, same);
+    show(100000, 100000);
 }

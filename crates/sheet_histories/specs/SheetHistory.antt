@@ -2,13 +2,13 @@
 -- from any accepted sheet. A change of a history carries that the numbers of its extent fit their fields, as in memory; bytes that were read always do, and
 -- the statement says that first (`Asks`). proofs/Histories.antt proves it, and proofs/SmallSheetHistory.antt has an instance.
 -- Assumes nothing.
-use Rattle.std.specs.Prelude.{ℕ, zero, suc, ◌≡◌, List, [], ◌∷◌}
+use Rattle.std.specs.Prelude.{ℕ, zero, suc, ◌≡◌, List, [], ◌∷◌, Option, Some, None}
 use Rattle.codec.specs.Bytes.{IsBytes}
 use Rattle.codec.specs.Question.{done}
 use Rattle.codec.specs.Records.{RmapFits}
 use Rattle.groups.specs.History as history
 use Rattle.sheets.specs.declared.change.SheetChange.{SheetChange}
-use Rattle.sheets.specs.declared.change.SheetChange.TheVariants.{FirstTake, LetGo, TakeHeld, Nothing}
+use Rattle.sheets.specs.declared.change.SheetChange.TheVariants.{FirstTake, LetGo, TakeHeld}
 use Rattle.sheets.specs.Change.{change_count, change_at}
 use Rattle.sheets.specs.Sheet.{read_outcome}
 
@@ -21,18 +21,18 @@ pub record Rooms : Type 0 where
   pub free : ℕ
 
 -- a change asks for something, of an extent whose numbers fit their fields
-abbrev pub Asks : SheetChange → Type 0
-Asks (FirstTake x) = RmapFits x
-Asks (LetGo x) = RmapFits x
-Asks (TakeHeld x) = RmapFits x
-Asks Nothing = ⊥
+abbrev pub Asks : Option SheetChange → Type 0
+Asks (Some (FirstTake x)) = RmapFits x
+Asks (Some (LetGo x)) = RmapFits x
+Asks (Some (TakeHeld x)) = RmapFits x
+Asks None = ⊥
 
 -- kind 1 is a first take, by `insert`; kind 2 a let go; kind 3 a take of held blocks
-unfoldable pub step_of : Rooms → (c : SheetChange) → Asks c → history.Change
-step_of r (FirstTake x) fits = history.take x fits r.map
-step_of r (LetGo x) fits = history.let_go x r.map r.counts r.free
-step_of r (TakeHeld x) fits = history.take_held x fits r.map r.counts
-step_of r Nothing fits = absurd fits
+unfoldable pub step_of : Rooms → (c : Option SheetChange) → Asks c → history.Change
+step_of r (Some (FirstTake x)) fits = history.take x fits r.map
+step_of r (Some (LetGo x)) fits = history.let_go x r.map r.counts r.free
+step_of r (Some (TakeHeld x)) fits = history.take_held x fits r.map r.counts
+step_of r None fits = absurd fits
 
 -- ---- a list of them
 

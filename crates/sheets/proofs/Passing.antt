@@ -1,15 +1,17 @@
 -- Tests along the parts of a list, as a loop makes them: what the parts from one on decide, and what one part more decides.
 -- Assumes nothing.
-use Prim.Native.Nat.{ℕ, suc, ◌+◌, ◌-◌, ◌*◌, ◌≤◌, ◌<◌}
+use Prim.Native.Nat.{ℕ, zero, suc, ◌+◌, ◌-◌, ◌*◌, ◌≤◌, ◌<◌}
 use native.Mathlib.Nat.{zero-mul, sub-zero, add-sub_cancel_left}
 use native.Mathlib.Numerals.{add-one}
 use native.Mathlib.Omega.{arith}
 use mathlib.Core.Path.{◌≡◌, refl, sym, ap, ap₂, ◌∙◌}
 use mathlib.Core.Bool.{Bool, true, false, ◌&&◌}
-use mathlib.Core.List.{List}
+use mathlib.Core.List.{List, [], ◌∷◌}
+use Rattle.std.specs.List.{list_all}
+use Rattle.std.specs.Simd.{first_chunks}
 use lib.Dec.{eqb}
-use lib.ListN.{length, take, drop, get_or, drop_of_length-le}
-use lib.Seq.{drop-drop, drop-cons}
+use lib.ListN.{take, drop}
+use lib.Seq.{drop-drop}
 use borrow.Author.Tests.{eq-eqb, ne_eqb}
 use native.Mathlib.Decide.{ℕ_discrete}
 use Rattle.codec.specs.Bytes.{bytes_at}
@@ -49,29 +51,10 @@ module _ (w : ℕ) (g : ℕ → ℕ → List ℕ → Bool) (all : ℕ → ℕ �
 
 -- ---- changes
 
-good_none : (i : ℕ) (l : List ℕ) → good_changes 0 l ≡ true
+pub good-all : (n : ℕ) (l : List ℕ) → list_all good_change (first_chunks 32 n l) ≡ good_changes n l
 unfolding good_changes
-good_none i l = refl
-
-good_more : (i n : ℕ) (l : List ℕ) → good_changes (suc n) l ≡ (good_change (take 32 l) && good_changes n (drop 32 l))
-unfolding good_changes
-good_more i n l = refl
-
-module _ (n : ℕ) (l : List ℕ) where
-  abbrev pub good_from : ℕ → Bool
-  good_from i = good_changes (n - i) (drop (i * 32) l)
-
-  pub good_from-start : good_from 0 ≡ good_changes n l
-  good_from-start = from_start 32 (λ i k c. good_change c) (λ i k s. good_changes k s) good_none good_more n l
-
-  pub good_from-bad : (i : ℕ) → i < n → good_change (bytes_at l (i * 32) 32) ≡ false → good_from i ≡ false
-  good_from-bad i h = from-bad 32 (λ i k c. good_change c) (λ i k s. good_changes k s) good_none good_more n l i h (omega arith)
-
-  pub good_from-pass : (i : ℕ) → i < n → good_change (bytes_at l (i * 32) 32) ≡ true → good_from i ≡ good_from (i + 1)
-  good_from-pass i h = from-pass 32 (λ i k c. good_change c) (λ i k s. good_changes k s) good_none good_more n l i h (omega arith)
-
-  pub good_from-end : (i : ℕ) → n ≤ i → good_from i ≡ true
-  good_from-end = from_end 32 (λ i k c. good_change c) (λ i k s. good_changes k s) good_none good_more n l
+good-all zero l = refl
+good-all (suc n) l = ap (λ (t : Bool). good_change (take 32 l) && t) (good-all n (drop 32 l))
 
 -- ---- CRCs
 
@@ -134,19 +117,10 @@ module _ (n : ℕ) (s : List ℕ) where
 
 -- ---- zeros
 
-zeros-more : (s : List ℕ) (i : ℕ) → i < length s → is_zeros (drop i s) ≡ (eqb (get_or s i 0) 0 && is_zeros (drop (i + 1) s))
+pub zeros-all : (s : List ℕ) → is_zeros s ≡ list_all (λ b. eqb b 0) s
 unfolding is_zeros
-zeros-more s i h = rw (add-one, drop-cons s i 0)
-
-pub zeros-bad : (s : List ℕ) (i : ℕ) → i < length s → (get_or s i 0 ≡ 0 → ⊥) → is_zeros (drop i s) ≡ false
-zeros-bad s i h q = zeros-more s i h ∙ ap (λ (t : Bool). t && is_zeros (drop (i + 1) s)) (ne_eqb (get_or s i 0) 0 q)
-
-pub zeros-pass : (s : List ℕ) (i : ℕ) → i < length s → get_or s i 0 ≡ 0 → is_zeros (drop i s) ≡ is_zeros (drop (i + 1) s)
-zeros-pass s i h q = zeros-more s i h ∙ ap (λ (t : Bool). t && is_zeros (drop (i + 1) s)) (eq-eqb (get_or s i 0) 0 q)
-
-pub zeros-end : (s : List ℕ) (i : ℕ) → length s ≤ i → is_zeros (drop i s) ≡ true
-unfolding is_zeros
-zeros-end s i h = rw (drop_of_length-le s {i = i} h)
+zeros-all [] = refl
+zeros-all (b ∷ s) = ap (λ (t : Bool). eqb b 0 && t) (zeros-all s)
 
 -- ---- a part as a loop lends it
 

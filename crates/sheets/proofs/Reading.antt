@@ -10,16 +10,16 @@ use lib.Dec.{leb, eqb}
 use lib.ListN.{length, take, drop, length-append}
 use lib.Seq.{drop-drop}
 use borrow.Author.Tests.{leb-true, le-leb, lt-leb, ne_eqb}
+use Rattle.std.specs.Prelude.{Ok, Err}
 use Rattle.codec.specs.Bytes.{bytes_at, with_bytes, be_of}
 use Rattle.codec.specs.Output.{out_after}
 use Rattle.codec.specs.Question.{none, Outcome, done, refused, map_outcome}
 use Rattle.codec.specs.Accepted.{whole}
 use Rattle.codec.proofs.ListBytes.{whole-facts, facts-whole}
-use Rattle.codec.proofs.Parts.{bytes_at-bytes_at, length-bytes_at, length-with_bytes, with_bytes-add}
+use Rattle.codec.proofs.Parts.{length-bytes_at, length-with_bytes, with_bytes-add}
 use Rattle.codec.proofs.Stores.{bytes_at-is, with_bytes-none}
 use Rattle.codec.proofs.Tests.{conj, and_l, and_r, and-true, and-off}
 use Rattle.sheets.specs.declared.SheetRefusal.{SheetRefusal}
-use Rattle.sheets.specs.declared.Sheeted.TheVariants.{Done, Refused}
 use Rattle.sheets.specs.Sheet.{count, part_in, crc_ok, ruled, all_crcs, all_ruled, changes_in, block_count, crcs_hold, rules_hold, sheet_changes, check_outcome}
 use Rattle.sheets.specs.Answer.{sheet_number, SheetIs}
 use Rattle.sheets.specs.Inner.Passes.{Kept}
@@ -30,10 +30,10 @@ use Rattle.sheets.proofs.Passing.{crcs_from, crcs_from-start, crcs_from-bad, crc
 
 -- ---- answers
 
-pub is-refused : {o : Outcome (List ℕ)} (q : SheetRefusal) (out : List ℕ) → o ≡ refused (sheet_number q) none → SheetIs o (Refused q) out out
+pub is-refused : {o : Outcome (List ℕ)} (q : SheetRefusal) (out : List ℕ) → o ≡ refused (sheet_number q) none → SheetIs o (Err q) out out
 is-refused q out e = record { said = sym (ap (map_outcome length) e); wrote = sym (ap (λ (x : Outcome (List ℕ)). out_after x out) e) }
 
-pub is-done : {o : Outcome (List ℕ)} {bytes : List ℕ} (k : ℕ) (out out' : List ℕ) → o ≡ done bytes → k ≡ length bytes → out' ≡ with_bytes out 0 bytes → SheetIs o (Done k) out out'
+pub is-done : {o : Outcome (List ℕ)} {bytes : List ℕ} (k : ℕ) (out out' : List ℕ) → o ≡ done bytes → k ≡ length bytes → out' ≡ with_bytes out 0 bytes → SheetIs o (Ok k) out out'
 is-done k out out' e l w = record { said = ap done l ∙ sym (ap (map_outcome length) e); wrote = w ∙ sym (ap (λ (x : Outcome (List ℕ)). out_after x out) e) }
 
 -- ---- the pass
@@ -64,18 +64,16 @@ module _ (s : List ℕ) where
     crcs-are : (t : Bool) → crcs_from n s i ≡ t → (whole 512 s && all_crcs n s) ≡ t
     crcs-are t e = ap (λ (x : Bool). x && all_crcs n s) (facts-whole 512 s w) ∙ k.crcs ∙ e
 
-    module _ (h : i < n) where
-      abbrev part : List ℕ
-      part = take (i * 512 + 512 - i * 512) (drop (i * 512) s)
+    -- block i, as it was read
+    module _ (h : i < n) (b : List ℕ) (is : b ≡ bytes_at s (i * 512) 512) where
+      pub scan-bad : crc_ok b ≡ false → refused 32 none ≡ check_outcome s
+      scan-bad e = sym (asked-crc s (crcs-are false (crcs_from-bad n s i h (ap crc_ok (sym is) ∙ e))))
 
-      pub scan-bad : crc_ok part ≡ false → refused 32 none ≡ check_outcome s
-      scan-bad e = sym (asked-crc s (crcs-are false (crcs_from-bad n s i h (ap crc_ok (sym (part_is s (i * 512) 512)) ∙ e))))
-
-      module _ (e : crc_ok part ≡ true) where
+      module _ (e : crc_ok b ≡ true) where
         right : all_crcs n s ≡ crcs_from n s (i + 1)
-        right = k.crcs ∙ crcs_from-pass n s i h (ap crc_ok (sym (part_is s (i * 512) 512)) ∙ e)
+        right = k.crcs ∙ crcs_from-pass n s i h (ap crc_ok (sym is) ∙ e)
 
-        pub scan_good : (good' : Bool) → good ≡ true → good' ≡ ruled i (eqb (i + 1) n) part → Scanned good' (i + 1)
+        pub scan_good : (good' : Bool) → good ≡ true → good' ≡ ruled i (eqb (i + 1) n) b → Scanned good' (i + 1)
         scan_good good' g r =
             record {
               within = omega arith;
@@ -84,7 +82,7 @@ module _ (s : List ℕ) where
                   k.rules
                   ∙ ap (λ (t : Bool). t && ruled_from n s i) g
                   ∙ ruled_from-more n s i h
-                  ∙ ap (λ (t : Bool). t && ruled_from n s (i + 1)) (ap (ruled i (eqb (i + 1) n)) (sym (part_is s (i * 512) 512)) ∙ sym r);
+                  ∙ ap (λ (t : Bool). t && ruled_from n s (i + 1)) (ap (ruled i (eqb (i + 1) n)) (sym is) ∙ sym r);
             }
 
         pub scan-noted : (good' : Bool) → good ≡ false → good' ≡ good → Scanned good' (i + 1)
@@ -110,22 +108,18 @@ module _ (s : List ℕ) where
         all-ruled : (leb n 65536 && all_ruled 0 n s) ≡ true
         all-ruled = k.rules ∙ ap (λ (t : Bool). t && ruled_from n s i) g ∙ ruled_from-end n s i h
 
-        pub scan-kept : Kept s
-        scan-kept = record { long = omega arith; some = omega arith; rules = and_r (leb n 65536) (all_ruled 0 n s) all-ruled }
+        kept : Kept s
+        kept = record { long = omega arith; some = omega arith; rules = and_r (leb n 65536) (all_ruled 0 n s) all-ruled }
 
-        pub scan-done : (r : ℕ) → r ≡ length (sheet_changes s) → done r ≡ check_outcome s
-        scan-done r e =
-            ap done e ∙ sym (asked-done s all-crcs (and-true (leb 1 n) (leb n 65536 && all_ruled 0 n s) (le-leb 1 n (omega arith)) all-ruled))
-
--- ---- the length of the changes
-
-pub changes-long : (s : List ℕ) (r : ℕ) → Kept s → r ≡ be_of (bytes_at s ((length s / 512 - 1) * 512 + 8) 2) → (length s / 512 - 1) * 480 + r * 32 ≡ length (sheet_changes s)
-changes-long s r k e =
-    let m : ℕ = length s / 512 - 1 in
-    let q : length s / 512 ≡ suc m = omega (arith, k.some) in
-    let c = changes-count m 0 s (k.long ∙ ap (λ (x : ℕ). x * 512) q) (subst (λ (x : ℕ). all_ruled 0 x s ≡ true) q k.rules) in
-    let f : count_of m s ≡ r = ap count (sym (bytes_at-is s (m * 512) 512)) ∙ ap be_of (bytes_at-bytes_at s (m * 512) 512 8 2 (omega arith)) ∙ sym e in
-    omega (arith, c.long) ∙ ap (λ (x : ℕ). length (changes_in x s)) (sym q)
+        -- m full blocks, then one with r changes
+        pub scan-done : (m r : ℕ) (b : List ℕ) → n ≡ m + 1 → b ≡ bytes_at s (m * 512) 512 → r ≡ be_of (bytes_at b 8 2)
+            → done (m * 480 + r * 32) ≡ check_outcome s
+        scan-done m r b q is e =
+            let q' : n ≡ suc m = omega arith in
+            let c = changes-count m 0 s (kept.long ∙ ap (λ (x : ℕ). x * 512) q') (subst (λ (x : ℕ). all_ruled 0 x s ≡ true) q' kept.rules) in
+            let f : count_of m s ≡ r = ap count (sym (bytes_at-is s (m * 512) 512) ∙ sym is) ∙ sym e in
+            let l : m * 480 + r * 32 ≡ length (sheet_changes s) = omega (arith, c.long) ∙ ap (λ (x : ℕ). length (changes_in x s)) (sym q') in
+            ap done l ∙ sym (asked-done s all-crcs (and-true (leb 1 n) (leb n 65536 && all_ruled 0 n s) (le-leb 1 n (omega arith)) all-ruled))
 
 -- ---- a sheet that passed
 
@@ -185,51 +179,51 @@ module _ (s : List ℕ) where
   copy_done before out i at c h = sym (c.all ∙ ap (with_bytes out at) (changes-end i h) ∙ with_bytes-none out at)
 
   -- one block more, that says it has r changes
-  module _ (before out : List ℕ) (i at r : ℕ) (k : Kept s) (room : length (sheet_changes s) ≤ length before) (c : Copied before out i at) (h : i < length s / 512) (number : r ≡ be_of (bytes_at s (i * 512 + 8) 2)) where
-    abbrev lent : List ℕ
-    lent = take (i * 512 + 32 + r * 32 - (i * 512 + 32)) (drop (i * 512 + 32) s)
+  module _
+      (before out : List ℕ) (i at r : ℕ) (room : length (sheet_changes s) ≤ length before) (c : Copied before out i at) (h : i < length s / 512)
+      (b : List ℕ) (is : b ≡ bytes_at s (i * 512) 512) (number : r ≡ be_of (bytes_at b 8 2))
+    where
+      long : length b ≡ 512
+      long = ap length is ∙ length-bytes_at s (i * 512) 512 (omega arith)
 
-    counted : count (block i) ≡ r
-    counted = ap be_of (bytes_at-bytes_at s (i * 512) 512 8 2 (omega arith)) ∙ sym number
+      abbrev lent : List ℕ
+      lent = take (32 + r * 32 - 32) (drop 32 b)
 
-    both : (ruled i (eqb (i + 1) (length s / 512)) (block i) && ruled_from (length s / 512) s (i + 1)) ≡ true
-    both = sym (ruled_from-more (length s / 512) s i h) ∙ c.rules
+      counted : count (block i) ≡ r
+      counted = ap count (sym is) ∙ sym number
 
-    pub few : r ≤ 15
-    few = omega (arith, counted, (ruled-facts i (eqb (i + 1) (length s / 512)) (block i) (and_l (ruled i (eqb (i + 1) (length s / 512)) (block i)) (ruled_from (length s / 512) s (i + 1)) both)).most)
+      both : (ruled i (eqb (i + 1) (length s / 512)) (block i) && ruled_from (length s / 512) s (i + 1)) ≡ true
+      both = sym (ruled_from-more (length s / 512) s i h) ∙ c.rules
 
-    pub ends : i * 512 + 512 ≤ length s
-    ends = omega (arith, k.long)
+      pub few : r ≤ 15
+      few = omega (arith, counted, (ruled-facts i (eqb (i + 1) (length s / 512)) (block i) (and_l (ruled i (eqb (i + 1) (length s / 512)) (block i)) (ruled_from (length s / 512) s (i + 1)) both)).most)
 
-    lent_is : lent ≡ part_in (block i)
-    lent_is =
-        part_is s (i * 512 + 32) (r * 32)
-        ∙ sym (bytes_at-bytes_at s (i * 512) 512 32 (r * 32) (omega (arith, few)))
-        ∙ ap (λ (x : ℕ). bytes_at (block i) 32 (x * 32)) (sym counted)
+      lent_is : lent ≡ part_in (block i)
+      lent_is = part_is b 32 (r * 32) ∙ ap₂ (λ (x : List ℕ) (y : ℕ). bytes_at x 32 (y * 32)) is (sym counted)
 
-    lent-long : length lent ≡ r * 32
-    lent-long = ap length (part_is s (i * 512 + 32) (r * 32)) ∙ length-bytes_at s (i * 512 + 32) (r * 32) (omega (arith, few, ends))
+      lent-long : length lent ≡ r * 32
+      lent-long = ap length (part_is b 32 (r * 32)) ∙ length-bytes_at b 32 (r * 32) (omega (arith, few, long))
 
-    next : changes_from i ≡ lent ++ changes_from (i + 1)
-    next = changes-more i h ∙ ap (λ (x : List ℕ). x ++ changes_from (i + 1)) (sym lent_is)
+      next : changes_from i ≡ lent ++ changes_from (i + 1)
+      next = changes-more i h ∙ ap (λ (x : List ℕ). x ++ changes_from (i + 1)) (sym lent_is)
 
-    next-long : length (changes_from i) ≡ r * 32 + length (changes_from (i + 1))
-    next-long = ap length next ∙ length-append lent (changes_from (i + 1)) ∙ ap (λ (x : ℕ). x + length (changes_from (i + 1))) lent-long
+      next-long : length (changes_from i) ≡ r * 32 + length (changes_from (i + 1))
+      next-long = ap length next ∙ length-append lent (changes_from (i + 1)) ∙ ap (λ (x : ℕ). x + length (changes_from (i + 1))) lent-long
 
-    pub fits : at + length lent ≤ length out
-    fits = omega (arith, c.far, c.same, next-long, lent-long)
+      pub fits : at + length lent ≤ length out
+      fits = omega (arith, c.far, c.same, next-long, lent-long)
 
-    pub copy_more : (out' : List ℕ) → out' ≡ with_bytes out at lent → Copied before out' (i + 1) (at + (i * 512 + 32 + r * 32 - (i * 512 + 32)))
-    copy_more out' e =
-        let w : i * 512 + 32 + r * 32 - (i * 512 + 32) ≡ r * 32 = omega arith in
-        record {
-          within = omega arith;
-          same = ap length e ∙ length-with_bytes out at lent fits ∙ c.same;
-          rules = and_r (ruled i (eqb (i + 1) (length s / 512)) (block i)) (ruled_from (length s / 512) s (i + 1)) both;
-          all =
-              c.all
-              ∙ ap (with_bytes out at) next
-              ∙ sym (with_bytes-add out at lent (changes_from (i + 1)) fits)
-              ∙ ap₂ (λ (x : List ℕ) (y : ℕ). with_bytes x y (changes_from (i + 1))) (sym e) (ap (λ (x : ℕ). at + x) (lent-long ∙ sym w));
-          far = omega (arith, c.far, next-long);
-        }
+      pub copy_more : (out' : List ℕ) → out' ≡ with_bytes out at lent → Copied before out' (i + 1) (at + (32 + r * 32 - 32))
+      copy_more out' e =
+          let w : 32 + r * 32 - 32 ≡ r * 32 = omega arith in
+          record {
+            within = omega arith;
+            same = ap length e ∙ length-with_bytes out at lent fits ∙ c.same;
+            rules = and_r (ruled i (eqb (i + 1) (length s / 512)) (block i)) (ruled_from (length s / 512) s (i + 1)) both;
+            all =
+                c.all
+                ∙ ap (with_bytes out at) next
+                ∙ sym (with_bytes-add out at lent (changes_from (i + 1)) fits)
+                ∙ ap₂ (λ (x : List ℕ) (y : ℕ). with_bytes x y (changes_from (i + 1))) (sym e) (ap (λ (x : ℕ). at + x) (lent-long ∙ sym w));
+            far = omega (arith, c.far, next-long);
+          }

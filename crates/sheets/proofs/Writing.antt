@@ -1,7 +1,7 @@
 -- Sheets written: zeros put in a place, a block put together from its fields, blocks one after another, and what the call comes to.
 -- Assumes nothing.
 use Prim.Native.Nat.{ℕ, zero, suc, ◌+◌, ◌-◌, ◌*◌, ◌/◌, ◌≤◌, ◌<◌, min}
-use native.Mathlib.Nat.{zero-mul, sub-zero, sub_self}
+use native.Mathlib.Nat.{zero-mul, sub-zero, add-sub_cancel_left}
 use native.Mathlib.Numerals.{add-one}
 use native.Mathlib.Omega.{arith}
 use mathlib.Core.Path.{◌≡◌, refl, sym, ap, ap₂, ◌∙◌}
@@ -10,7 +10,7 @@ use mathlib.Core.List.{List, [], ◌∷◌, ◌++◌, append_assoc}
 use borrow.Author.Tests.{leb-true, le-leb, lt-leb}
 use borrow.Rule.Slice.PartMut.{put_mid}
 use lib.Dec.{leb, eqb}
-use lib.ListN.{length, take, drop, set, replicate, length-append, length-take, length-drop, length-replicate, replicate-append-replicate}
+use lib.ListN.{length, take, drop, set, replicate, length-append, length-take, length-drop, length-set, length-replicate}
 use lib.Seq.{take_all, drop-drop}
 use native.Mathlib.Decide.{dec_le}
 use Rattle.codec.specs.Bytes.{bytes_at, with_bytes, be_bytes, le_bytes}
@@ -28,16 +28,13 @@ use Rattle.sheets.proofs.Passing.{last-is}
 
 -- ---- zeros
 
-pub zeros-none : (b : List ℕ) (from : ℕ) → b ≡ with_bytes b from (replicate (from - from) 0)
-zeros-none b from = sym (ap (λ (k : ℕ). with_bytes b from (replicate k 0)) (sub_self from) ∙ with_bytes-none b from)
-
-pub zeros-again : (b s : List ℕ) (from i : ℕ) → from ≤ i → i < length b → s ≡ with_bytes b from (replicate (i - from) 0)
-    → set s i 0 ≡ with_bytes b from (replicate (i + 1 - from) 0)
-zeros-again b s from i h k q =
-    let n : length (replicate {A = ℕ} (i - from) 0) ≡ i - from = length-replicate {A = ℕ} (i - from) 0 in
-    let m : i - from + 1 ≡ i + 1 - from = omega arith in
-    with_bytes-more b s (replicate (i - from) 0) from i 0 (omega arith) k q
-    ∙ ap (with_bytes b from) (replicate-append-replicate (i - from) 1 0 ∙ ap (λ (x : ℕ). replicate x 0) m)
+-- a part of a list, lent and filled with zeros
+pub zeros-put : (b ys : List ℕ) (at n : ℕ) → at + n ≤ length b → ys ≡ replicate (length (take n (drop at b))) 0
+    → put_mid at n b ys ≡ with_bytes b at (replicate n 0)
+zeros-put b ys at n h e =
+    let l : length (take n (drop at b)) ≡ n = simp (length-take, length-drop) (omega arith) in
+    ap (λ (k : ℕ). put_mid at k b ys) (sym (add-sub_cancel_left at n))
+    ∙ part-put b ys (replicate n 0) at n (e ∙ ap (λ (k : ℕ). replicate k 0) l) (length-replicate {A = ℕ} n 0)
 
 -- ---- a block
 
@@ -57,9 +54,6 @@ pub filled-long : (p : List ℕ) → length p ≤ 480 → length (filled_up p) �
 filled-long p h = length-append p (replicate (480 - length p) 0) ∙ omega (arith, length-replicate {A = ℕ} (480 - length p) 0)
 
 module _ (b : List ℕ) (long : length b ≡ 512) where
-  pub header-same : (i n : ℕ) (last : Bool) (b₁ : List ℕ) → b₁ ≡ with_bytes b 4 (sheet_header i n last) → length b₁ ≡ length b
-  header-same i n last b₁ e = ap length e ∙ length-with_bytes b 4 (sheet_header i n last) (omega (arith, header-long i n last))
-
   -- the fields of the header, left to right
   module _ (i n : ℕ) (last : Bool) (m : ℕ) (b₁ b₂ : List ℕ) (e₁ : b₁ ≡ with_bytes b 4 (be_bytes 4 i)) (e₂ : b₂ ≡ with_bytes b₁ 8 (be_bytes 2 n)) where
     two : List ℕ
@@ -76,13 +70,14 @@ module _ (b : List ℕ) (long : length b ≡ 512) where
     pub two-same : length b₂ ≡ 512
     two-same = ap length two-put ∙ length-with_bytes b 4 two (omega (arith, two-long)) ∙ long
 
-    pub header-put : (b₃ : List ℕ) → m ≡ cond last 1 0 → b₃ ≡ with_bytes (set b₂ 10 m) 11 (replicate (32 - 11) 0) → b₃ ≡ with_bytes b 4 (sheet_header i n last)
+    pub header-put : (ys : List ℕ) → m ≡ cond last 1 0 → ys ≡ replicate (length (take 21 (drop 11 (set b₂ 10 m)))) 0
+        → put_mid 11 21 (set b₂ 10 m) ys ≡ with_bytes b 4 (sheet_header i n last)
     unfolding two
-    header-put b₃ e f =
+    header-put ys e f =
         let three : List ℕ = two ++ (m ∷ []) in
         let l : length three ≡ 7 = length-append two (m ∷ []) ∙ omega (arith, two-long) in
         let q : set b₂ 10 m ≡ with_bytes b 4 three = with_bytes-more b b₂ two 4 10 m (omega (arith, two-long)) (omega arith) two-put in
-        f
+        zeros-put (set b₂ 10 m) ys 11 21 (omega (arith, length-set b₂ 10 m, two-same)) f
         ∙ ap (λ (x : List ℕ). with_bytes x 11 (replicate 21 0)) q
         ∙ with_bytes-then b three (replicate 21 0) 4 11 (omega arith) (omega arith)
         ∙ ap (λ (x : List ℕ). with_bytes b 4 ((two ++ x) ++ replicate 21 0)) (ap (λ (x : ℕ). x ∷ []) e ∙ mark-bytes last)
@@ -90,10 +85,14 @@ module _ (b : List ℕ) (long : length b ≡ 512) where
 
   -- the changes, then zeros
   module _ (p : List ℕ) (few : length p ≤ 480) (b₁ : List ℕ) (e₁ : b₁ ≡ with_bytes b 32 p) where
-    pub changes-put : (b₂ : List ℕ) → b₂ ≡ with_bytes b₁ (32 + length p) (replicate (512 - (32 + length p)) 0) → b₂ ≡ with_bytes b 32 (filled_up p)
-    changes-put b₂ e =
-        let q : 512 - (32 + length p) ≡ 480 - length p = omega arith in
-        e
+    copied-long : length b₁ ≡ 512
+    copied-long = ap length e₁ ∙ length-with_bytes b 32 p (omega arith) ∙ long
+
+    pub changes-put : (ys : List ℕ) → ys ≡ replicate (length (take (length b₁ - (32 + length p)) (drop (32 + length p) b₁))) 0
+        → put_mid (32 + length p) (length b₁ - (32 + length p)) b₁ ys ≡ with_bytes b 32 (filled_up p)
+    changes-put ys e =
+        let q : length b₁ - (32 + length p) ≡ 480 - length p = omega (arith, copied-long) in
+        zeros-put b₁ ys (32 + length p) (length b₁ - (32 + length p)) (omega (arith, copied-long)) e
         ∙ ap₂ (λ (x : List ℕ) (y : ℕ). with_bytes x (32 + length p) (replicate y 0)) e₁ q
         ∙ with_bytes-then b p (replicate (480 - length p) 0) 32 (32 + length p) refl (omega arith)
 

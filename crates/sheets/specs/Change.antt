@@ -1,13 +1,13 @@
 -- Changes of 32 bytes each: kind (4), zeros (4), a reverse-map record (24). The record is not asked about: that its extent is good is question 22 of the
 -- call that the change is made by.
 -- Assumes nothing.
-use Rattle.std.specs.Prelude.{ℕ, zero, suc, ◌*◌, ◌/◌, Bool, true, cond, ◌&&◌, List, ltb, leb, eqb, length, take, drop}
+use Rattle.std.specs.Prelude.{ℕ, zero, suc, ◌*◌, ◌/◌, Bool, true, cond, ◌&&◌, List, ltb, leb, eqb, length, take, drop, Option, Some, None}
 use Rattle.codec.specs.Bytes.{bytes_at, be_of}
 use Rattle.codec.specs.Accepted.{whole}
 use Rattle.codec.specs.Records.{rmaps}
 use Rattle.codec.specs.declared.rmap.Rmap.{Rmap}
 use Rattle.sheets.specs.declared.change.SheetChange.{SheetChange}
-use Rattle.sheets.specs.declared.change.SheetChange.TheVariants.{FirstTake, LetGo, TakeHeld, Nothing}
+use Rattle.sheets.specs.declared.change.SheetChange.TheVariants.{FirstTake, LetGo, TakeHeld}
 use Rattle.sheets.specs.Layout.{change_len, kind_at, zeros_at, record_at, max_changes}
 
 abbrev pub change_kind : List ℕ → ℕ
@@ -36,12 +36,12 @@ good_list l = whole change_len l && (leb 1 (change_count l) && (leb (change_coun
 -- ---- a change as a caller reads it
 
 -- what its 32 bytes ask for; nothing where the kind is none of the three
-unfoldable pub asked_by : List ℕ → SheetChange
+unfoldable pub asked_by : List ℕ → Option SheetChange
 asked_by c =
-    cond (eqb (change_kind c) 1) (FirstTake (change_record c))
-    (cond (eqb (change_kind c) 2) (LetGo (change_record c))
-    (cond (eqb (change_kind c) 3) (TakeHeld (change_record c)) Nothing))
+    cond (eqb (change_kind c) 1) (Some (FirstTake (change_record c)))
+    (cond (eqb (change_kind c) 2) (Some (LetGo (change_record c)))
+    (cond (eqb (change_kind c) 3) (Some (TakeHeld (change_record c))) None))
 
 -- change i of a list; nothing where there is none
-unfoldable pub change_at : List ℕ → ℕ → SheetChange
-change_at l i = cond (ltb i (change_count l)) (asked_by (bytes_at l (i * change_len) change_len)) Nothing
+unfoldable pub change_at : List ℕ → ℕ → Option SheetChange
+change_at l i = cond (ltb i (change_count l)) (asked_by (bytes_at l (i * change_len) change_len)) None

@@ -1,6 +1,5 @@
 // One block of a sheet: its CRC and its rules.
-ghost use Rattle.std.specs.Prelude.{◌≡◌, length};
-ghost use Rattle.sheets.specs.Layout.{block_len};
+ghost use Rattle.std.specs.Prelude.{◌≡◌};
 ghost use Rattle.sheets.specs.Sheet.{mark_of, is_zeros, crc_ok, good_count, good_header, ruled};
 
 use crate::change::{CHANGE_LEN, good_changes};
@@ -16,7 +15,10 @@ pub(crate) const HEADER_LEN: usize = 32;
 pub(crate) const PER_BLOCK: usize = 15;
 
 // The bytes of its changes.
-pub(crate) const PART_LEN: usize = 480;
+pub(crate) const PART_LEN: usize = PER_BLOCK * CHANGE_LEN;
+
+// The most blocks of a sheet.
+pub(crate) const MAX_BLOCKS: usize = 65536;
 
 // The CRC, of all bytes after it.
 pub(crate) const CRC: usize = 0;
@@ -33,19 +35,11 @@ pub(crate) const BLANK: usize = 11;
 fn is_zeros(s: &[u8]) -> bool
     ensures { result ≡ is_zeros s.now }
 {
-    let mut i = 0;
-    while i < s.len() {
-        if s[i] != 0u8 {
-            return false;
-        }
-        i += 1;
-    }
-    true
+    s.iter().all(|b| *b == 0)
 }
 
 // Is the block's CRC that of its bytes?
-pub(crate) fn crc_ok(b: &[u8]) -> bool
-    requires { length b.now ≡ block_len }
+pub(crate) fn crc_ok(b: &[u8; BLOCK_LEN]) -> bool
     ensures { result ≡ crc_ok b.now }
 {
     le32(b, CRC) == crc32c(&b[PLACE..])
@@ -55,53 +49,33 @@ pub(crate) fn crc_ok(b: &[u8]) -> bool
 fn good_count(count: usize, last: bool) -> bool
     ensures { result ≡ good_count count last }
 {
-    if count < 1 {
-        return false;
-    }
-    if PER_BLOCK < count {
-        return false;
-    }
-    if last {
-        return true;
-    }
-    count == PER_BLOCK
+    (1..=PER_BLOCK).contains(&count) && (last || count == PER_BLOCK)
 }
 
 // The mark of the last block.
 pub(crate) fn mark(last: bool) -> u8
     ensures { result ≡ mark_of last }
 {
-    if last { 1 } else { 0 }
+    u8::from(last)
 }
 
 // Is what stands before the changes as it must be in the block with this place?
-fn good_header(b: &[u8], place: usize, last: bool) -> bool
-    requires { length b.now ≡ block_len }
+fn good_header(b: &[u8; BLOCK_LEN], place: usize, last: bool) -> bool
     ensures { result ≡ good_header place last b.now }
 {
-    if be32(b, PLACE) as usize != place {
-        return false;
-    }
-    if !good_count(be16(b, COUNT) as usize, last) {
-        return false;
-    }
-    if b[LAST] != mark(last) {
-        return false;
-    }
-    is_zeros(&b[BLANK..HEADER_LEN])
+    be32(b, PLACE) as usize == place
+        && good_count(be16(b, COUNT) as usize, last)
+        && b[LAST] == mark(last)
+        && is_zeros(&b[BLANK..HEADER_LEN])
 }
 
 // Does the block keep the rules, at this place of the sheet?
-pub(crate) fn is_ruled(b: &[u8], place: usize, last: bool) -> bool
-    requires { length b.now ≡ block_len }
+pub(crate) fn is_ruled(b: &[u8; BLOCK_LEN], place: usize, last: bool) -> bool
     ensures { result ≡ ruled place last b.now }
 {
     if !good_header(b, place, last) {
         return false;
     }
     let end = HEADER_LEN + be16(b, COUNT) as usize * CHANGE_LEN;
-    if !good_changes(&b[HEADER_LEN..end]) {
-        return false;
-    }
-    is_zeros(&b[end..])
+    good_changes(&b[HEADER_LEN..end]) && is_zeros(&b[end..])
 }

@@ -1,7 +1,5 @@
 // Changes: 32 bytes each, in a list of them or in a block of a sheet.
-ghost use Rattle.std.specs.Prelude.{◌≡◌, ◌+◌, ◌≤◌, length};
-ghost use Rattle.codec.specs.Bytes.{bytes_at};
-ghost use Rattle.sheets.specs.Layout.{change_len};
+ghost use Rattle.std.specs.Prelude.{◌≡◌};
 ghost use Rattle.sheets.specs.Change.{good_change, good_changes, change_count, asked_by, change_at};
 
 use codec::endian::be32;
@@ -10,11 +8,13 @@ use codec::rmap::{Rmap, decode};
 // The bytes of a change: its kind (4), zeros (4) and a record of the reverse map (24).
 pub const CHANGE_LEN: usize = 32;
 
+const KIND: usize = 0;
+
 const ZEROS: usize = 4;
 
 const RECORD: usize = 8;
 
-// The kinds.
+// The kinds. The match of `decode_change` makes a `SheetChange` of them: an enum between the two would repeat it.
 const FIRST_TAKE: u32 = 1;
 
 const LET_GO: u32 = 2;
@@ -22,64 +22,43 @@ const LET_GO: u32 = 2;
 const TAKE_HELD: u32 = 3;
 
 // What a change asks for, with its extent: `insert`, `let_go` or `take_held`.
-#[derive(Clone, Copy)]
+#[derive(Clone, Copy, Debug, PartialEq, Eq)]
 pub enum SheetChange {
     FirstTake(Rmap),
     LetGo(Rmap),
     TakeHeld(Rmap),
-    Nothing,
 }
 
-// Is the change at `at` bytes into `list` of one of the three kinds, with zeros behind it? The record is not asked.
-fn good_change(list: &[u8], at: usize) -> bool
-    requires { at + change_len ≤ length list.now }
-    ensures { result ≡ good_change (bytes_at list.now at change_len) }
+// Is the change of one of the three kinds, with zeros behind it? The record is not asked.
+fn good_change(c: &[u8; CHANGE_LEN]) -> bool
+    ensures { result ≡ good_change c.now }
 {
-    let kind = be32(list, at);
-    if kind < FIRST_TAKE {
-        return false;
-    }
-    if TAKE_HELD < kind {
-        return false;
-    }
-    be32(list, at + ZEROS) == 0
+    (FIRST_TAKE..=TAKE_HELD).contains(&be32(c, KIND)) && be32(c, ZEROS) == 0
 }
 
 // Are all changes of the list good?
 pub(crate) fn good_changes(list: &[u8]) -> bool
     ensures { result ≡ good_changes (change_count list.now) list.now }
 {
-    let n = list.len() / CHANGE_LEN;
-    let mut i = 0;
-    while i < n {
-        if !good_change(list, i * CHANGE_LEN) {
-            return false;
-        }
-        i += 1;
-    }
-    true
+    list.as_chunks().0.iter().all(|c| good_change(c))
 }
 
-// The change at `at` bytes into `list`.
-fn decode_change(list: &[u8], at: usize) -> SheetChange
-    requires { at + change_len ≤ length list.now }
-    ensures { result ≡ asked_by (bytes_at list.now at change_len) }
+// What the bytes of a change ask for; nothing where the kind is none of the three.
+fn decode_change(c: &[u8; CHANGE_LEN]) -> Option<SheetChange>
+    ensures { result ≡ asked_by c.now }
 {
-    let x = decode(list, at + RECORD);
-    match be32(list, at) {
-        FIRST_TAKE => SheetChange::FirstTake(x),
-        LET_GO => SheetChange::LetGo(x),
-        TAKE_HELD => SheetChange::TakeHeld(x),
-        _ => SheetChange::Nothing,
+    let x = decode(c, RECORD);
+    match be32(c, KIND) {
+        FIRST_TAKE => Some(SheetChange::FirstTake(x)),
+        LET_GO => Some(SheetChange::LetGo(x)),
+        TAKE_HELD => Some(SheetChange::TakeHeld(x)),
+        _ => None,
     }
 }
 
-// Change i of a list; nothing where there is none.
-pub fn change_at(list: &[u8], i: usize) -> SheetChange
+// Change i of a list, where there is one.
+pub fn change_at(list: &[u8], i: usize) -> Option<SheetChange>
     ensures { result ≡ change_at list.now i }
 {
-    if list.len() / CHANGE_LEN <= i {
-        return SheetChange::Nothing;
-    }
-    decode_change(list, i * CHANGE_LEN)
+    decode_change(list.as_chunks().0.get(i)?)
 }

@@ -12,7 +12,7 @@ pub mod read;
 pub mod write;
 
 // Why a sheet or a list of changes is refused. The number of each case (docs/QUESTIONS.md) is `sheet_number` of specs/Answer.antt.
-#[derive(Clone, Copy)]
+#[derive(Clone, Copy, Debug, PartialEq, Eq)]
 pub enum SheetRefusal {
     // the output is too short
     Room,
@@ -22,22 +22,15 @@ pub enum SheetRefusal {
     Rule,
 }
 
-impl SheetRefusal {
-    // No question on a sheet has values.
-    pub fn told(self) -> Told
-        ensures { Tells result (sheet_number self) (sheet_values self) }
-    {
-        match self {
+// No question on a sheet has values.
+impl From<SheetRefusal> for Told {
+    ghost from_gives = { λ r t. Tells t (sheet_number r) (sheet_values r) };
+
+    fn from(r: SheetRefusal) -> Told {
+        match r {
             SheetRefusal::Room => Told::plain(26),
             SheetRefusal::Crc => Told::plain(32),
             SheetRefusal::Rule => Told::plain(33),
         }
     }
-}
-
-#[derive(Clone, Copy)]
-pub enum Sheeted {
-    // the bytes of the changes read, or of the sheet written
-    Done(usize),
-    Refused(SheetRefusal),
 }

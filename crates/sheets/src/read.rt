@@ -5,54 +5,36 @@ ghost use Rattle.sheets.specs.Sheet.{sheet_changes, check_outcome};
 ghost use Rattle.sheets.specs.Answer.{sheet_outcome, Reads};
 ghost use Rattle.sheets.specs.Inner.Passes.{Kept};
 
-use crate::block::{BLOCK_LEN, COUNT, HEADER_LEN, PART_LEN, crc_ok, is_ruled};
+use crate::SheetRefusal;
+use crate::block::{BLOCK_LEN, COUNT, HEADER_LEN, MAX_BLOCKS, PART_LEN, crc_ok, is_ruled};
 use crate::change::CHANGE_LEN;
-use crate::{SheetRefusal, Sheeted};
 use codec::copy::copy;
 use codec::endian::be16;
 
-// The most blocks of a sheet.
-const MAX_BLOCKS: usize = 65536;
-
-// The bytes of the changes of a sheet that keeps the rules: all blocks but the last are full.
-fn changes_len(sheet: &[u8]) -> usize
-    requires { Kept sheet.now }
-    ensures { result ≡ length (sheet_changes sheet.now) }
-{
-    let full = sheet.len() / BLOCK_LEN - 1;
-    let last = be16(sheet, full * BLOCK_LEN + COUNT) as usize;
-    full * PART_LEN + last * CHANGE_LEN
-}
-
-// Questions 32 and 33 on a sheet, in one pass, and the bytes of its changes. A bad CRC in a later block comes before a rule broken in an earlier one, so a
-// broken rule is only noted.
-pub fn check_sheet(sheet: &[u8]) -> Sheeted
+// Questions 32 and 33 on a sheet, in one pass, and the bytes of its changes: all blocks but the last are full. A bad CRC in a later block comes before a rule
+// broken in an earlier one, so a broken rule is only noted.
+pub fn check_sheet(sheet: &[u8]) -> Result<usize, SheetRefusal>
     ensures { sheet_outcome result ≡ check_outcome sheet.now }
 {
-    if sheet.len() % BLOCK_LEN != 0 {
-        return Sheeted::Refused(SheetRefusal::Crc);
+    let (blocks, rest) = sheet.as_chunks();
+    if !rest.is_empty() {
+        return Err(SheetRefusal::Crc);
     }
-    let n = sheet.len() / BLOCK_LEN;
+    let n = blocks.len();
     let mut good = n <= MAX_BLOCKS;
-    let mut i = 0;
-    while i < n {
-        let from = i * BLOCK_LEN;
-        let to = from + BLOCK_LEN;
-        if !crc_ok(&sheet[from..to]) {
-            return Sheeted::Refused(SheetRefusal::Crc);
+    for (i, b) in blocks.iter().enumerate() {
+        if !crc_ok(b) {
+            return Err(SheetRefusal::Crc);
         }
-        if good {
-            good = is_ruled(&sheet[from..to], i, i + 1 == n);
-        }
-        i += 1;
+        good = good && is_ruled(b, i, i + 1 == n);
     }
-    if n == 0 {
-        return Sheeted::Refused(SheetRefusal::Rule);
-    }
+    let Some((last, full)) = blocks.split_last() else {
+        return Err(SheetRefusal::Rule);
+    };
     if !good {
-        return Sheeted::Refused(SheetRefusal::Rule);
+        return Err(SheetRefusal::Rule);
     }
-    Sheeted::Done(changes_len(sheet))
+    Ok(full.len() * PART_LEN + be16(last, COUNT) as usize * CHANGE_LEN)
 }
 
 // The changes of a sheet that keeps the rules, block by block.
@@ -60,32 +42,22 @@ fn copy_changes(sheet: &[u8], changes: &mut [u8])
     requires { Kept sheet.now × (length (sheet_changes sheet.now) ≤ length changes.old) }
     ensures { changes.new ≡ with_bytes changes.old 0 (sheet_changes sheet.now) }
 {
-    let n = sheet.len() / BLOCK_LEN;
-    let mut i = 0;
     let mut at = 0;
-    while i < n {
-        let head = i * BLOCK_LEN;
-        let from = head + HEADER_LEN;
-        let to = from + be16(sheet, head + COUNT) as usize * CHANGE_LEN;
-        copy(&sheet[from..to], changes, at);
-        at += to - from;
-        i += 1;
+    for b in sheet.as_chunks::<BLOCK_LEN>().0 {
+        let end = HEADER_LEN + be16(b, COUNT) as usize * CHANGE_LEN;
+        copy(&b[HEADER_LEN..end], changes, at);
+        at += end - HEADER_LEN;
     }
 }
 
-// The changes of a sheet, from the beginning of `changes` on.
-pub fn read_sheet(sheet: &[u8], changes: &mut [u8]) -> Sheeted
+// The changes of a sheet, from the beginning of `changes` on, and how many bytes they are.
+pub fn read_sheet(sheet: &[u8], changes: &mut [u8]) -> Result<usize, SheetRefusal>
     ensures { Reads sheet.now result changes.old changes.new }
 {
-    let checked = check_sheet(sheet);
-    match checked {
-        Sheeted::Refused(q) => Sheeted::Refused(q),
-        Sheeted::Done(long) => {
-            if changes.len() < long {
-                return Sheeted::Refused(SheetRefusal::Room);
-            }
-            copy_changes(sheet, changes);
-            Sheeted::Done(long)
-        }
+    let long = check_sheet(sheet)?;
+    if changes.len() < long {
+        return Err(SheetRefusal::Room);
     }
+    copy_changes(sheet, changes);
+    Ok(long)
 }

@@ -7,26 +7,15 @@ ghost use Rattle.std.specs.Prelude.{◌≡◌, ◌+◌, ◌≤◌, length};
 use codec::crc::crc32c;
 use codec::endian::{put_be32, put_le32};
 use codec::rmap::{Rmap, encode};
-use sheets::Sheeted;
+use sheets::SheetRefusal;
 use sheets::change::{CHANGE_LEN, SheetChange, change_at};
 use sheets::read::{check_sheet, read_sheet};
 use sheets::write::write_sheet;
-use show::lines::{show_told, words};
+use show::lines::{newline, number, show_outcome, words};
 
-// A name, and a number in decimal.
-fn number(name: &[u8], n: u64) {
+fn answer(name: &[u8], r: Result<usize, SheetRefusal>) {
     io::write_all(1, name);
-    io::print_decimal(1, n);
-}
-
-fn answer(name: &[u8], r: Sheeted) {
-    io::write_all(1, name);
-    match r {
-        Sheeted::Done(n) => number(b" done ", n as u64),
-        Sheeted::Refused(q) => {
-            show_told(q.told());
-        }
-    }
+    show_outcome(b" done ", r);
 }
 
 // The CRC of what was lent, and its first bytes.
@@ -38,20 +27,17 @@ fn bytes(b: &[u8]) {
     }
 }
 
-fn put_change(list: &mut [u8], at: usize, kind: u32, x: Rmap)
-    requires { at + 32 ≤ length list.old }
-    ensures { length list.new ≡ length list.old }
+fn put_change(change: &mut [u8], kind: u32, x: Rmap)
+    requires { length change.old ≡ 32 }
 {
-    put_be32(list, at, kind);
-    put_be32(list, at + 4, 0);
-    encode(list, at + 8, x);
+    put_be32(change, 0, kind);
+    put_be32(change, 4, 0);
+    encode(change, 8, x);
 }
 
 // Kinds 1 to 3 in turn, and extents one after another.
 fn fill(list: &mut [u8]) {
-    let n = list.len() / CHANGE_LEN;
-    let mut i = 0;
-    while i < n {
+    for (i, change) in list.chunks_exact_mut(CHANGE_LEN).enumerate() {
         let k = (i % 1000) as u32;
         let x = Rmap {
             startblock: k * 10,
@@ -59,9 +45,14 @@ fn fill(list: &mut [u8]) {
             owner: 1000,
             offset: k as u64,
         };
-        put_change(list, i * CHANGE_LEN, k % 3 + 1, x);
-        i += 1;
+        put_change(change, k % 3 + 1, x);
     }
+}
+
+// A list filled, and its sheet, of which `row` shows the answer.
+fn write_filled(list: &mut [u8], sheet: &mut [u8]) {
+    fill(list);
+    let _ = write_sheet(list, sheet);
 }
 
 // A list written, and what was written read back.
@@ -71,33 +62,26 @@ fn row(name: &[u8], list: &[u8]) {
     let w = write_sheet(list, &mut sheet);
     answer(name, w);
     bytes(&sheet);
-    if let Sheeted::Done(n) = w {
-        if n <= 1536 {
-            answer(b"  read", read_sheet(&sheet[0..n], &mut back));
-            bytes(&back);
-        }
+    if let Ok(n) = w
+        && n <= 1536
+    {
+        answer(b"  read", read_sheet(&sheet[0..n], &mut back));
+        bytes(&back);
     }
 }
 
 // The CRC of the block at `start` put in again, where there is one.
 fn seal(sheet: &mut [u8], start: usize) {
-    if sheet.len() < 512 {
-        return;
+    if 512 <= sheet.len() && start <= sheet.len() - 512 {
+        let crc = crc32c(&sheet[start + 4..start + 512]);
+        put_le32(sheet, start, crc);
     }
-    if sheet.len() - 512 < start {
-        return;
-    }
-    let from = start + 4;
-    let to = start + 512;
-    let crc = crc32c(&sheet[from..to]);
-    put_le32(sheet, start, crc);
 }
 
 fn put(sheet: &mut [u8], at: usize, value: u8) {
-    if sheet.len() <= at {
-        return;
+    if at < sheet.len() {
+        sheet[at] = value;
     }
-    sheet[at] = value;
 }
 
 // One byte set to a value, and the block's CRC put in again where asked.
@@ -124,8 +108,7 @@ fn damaged(name: &[u8], first: Byte, second: Byte, again: bool) {
     let mut list = [0u8; 512];
     let mut sheet = [0u8; 1024];
     let mut back = [0xEEu8; 1536];
-    fill(&mut list);
-    write_sheet(&list, &mut sheet);
+    write_filled(&mut list, &mut sheet);
     damage(&mut sheet, first.at, first.value, true);
     damage(&mut sheet, second.at, second.value, again);
     answer(name, read_sheet(&sheet, &mut back));
@@ -135,14 +118,14 @@ fn damaged(name: &[u8], first: Byte, second: Byte, again: bool) {
 fn kind(list: &[u8], i: usize) {
     number(b"change ", i as u64);
     match change_at(list, i) {
-        SheetChange::FirstTake(x) => number(b" first take ", x.startblock as u64),
-        SheetChange::LetGo(x) => number(b" let go ", x.startblock as u64),
-        SheetChange::TakeHeld(x) => number(b" take of held blocks ", x.startblock as u64),
-        SheetChange::Nothing => {
+        Some(SheetChange::FirstTake(x)) => number(b" first take ", x.startblock as u64),
+        Some(SheetChange::LetGo(x)) => number(b" let go ", x.startblock as u64),
+        Some(SheetChange::TakeHeld(x)) => number(b" take of held blocks ", x.startblock as u64),
+        None => {
             io::write_all(1, b" none");
         }
     }
-    io::write_all(1, b"\n");
+    newline();
 }
 
 // An output of some bytes, for the sheet of 16 changes and for its changes.
@@ -150,8 +133,7 @@ fn rooms(sheet_room: usize, room: usize) {
     let mut list = [0u8; 512];
     let mut sheet = [0u8; 1024];
     let mut back = [0xEEu8; 1536];
-    fill(&mut list);
-    write_sheet(&list, &mut sheet);
+    write_filled(&mut list, &mut sheet);
     if room <= 1536 {
         number(b"room ", room as u64);
         answer(b":", read_sheet(&sheet, &mut back[0..room]));
@@ -160,20 +142,19 @@ fn rooms(sheet_room: usize, room: usize) {
         number(b", room ", sheet_room as u64);
         answer(b":", write_sheet(&list, &mut sheet[0..sheet_room]));
     }
-    io::write_all(1, b"\n");
+    newline();
 }
 
 // The first bytes of the sheet of 16 changes.
 fn lengths(n: usize) {
     let mut list = [0u8; 512];
     let mut sheet = [0u8; 1024];
-    fill(&mut list);
-    write_sheet(&list, &mut sheet);
+    write_filled(&mut list, &mut sheet);
     if n <= 1024 {
         number(b"length ", n as u64);
         answer(b":", check_sheet(&sheet[0..n]));
     }
-    io::write_all(1, b"\n");
+    newline();
 }
 
 fn lists() {

@@ -1,1 +1,2 @@
-pub mod Throughout
+-- In reading order.
+pub mod Storing

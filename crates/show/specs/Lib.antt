@@ -1,3 +1,4 @@
 -- In reading order.
 pub mod Places
 pub mod Samples
+pub mod Images

@@ -1,10 +1,10 @@
 -- A list that holds one number throughout.
 -- Assumes nothing.
-use Rattle.std.specs.Prelude.{ℕ, Bool, true, false, cond, ◌&&◌, List, [], ◌∷◌, leb, eqb, length, drop}
+use Rattle.std.specs.Prelude.{ℕ, Bool, ◌&&◌, ◌==◌, List, leb, length, drop}
+use Rattle.std.specs.List.{list_all}
 
 abbrev pub throughout : List ℕ → ℕ → Bool
-throughout [] v = true
-throughout (x ∷ xs) v = cond (eqb x v) (throughout xs v) false
+throughout l v = list_all (λ x. x == v) l
 
 -- stack, scratch, block list and record list of a walk that hold it
 abbrev pub walk_throughout : (stack scratch blocks records : List ℕ) → ℕ → Bool

@@ -2,72 +2,71 @@
 ghost use Rattle.std.specs.Prelude.{◌≡◌, ◌&&◌, length};
 ghost use Rattle.show.specs.Places.{throughout, walk_throughout, tail_throughout};
 
-use crate::lines::{either, number};
-use crate::places::{all8, all32, all64};
+use crate::lines::{either, number, show_outcome};
+use crate::places;
+use codec::refusal::Told;
 
-fn both(a: bool, b: bool) -> bool
-    ensures { result ≡ (a && b) }
-{
-    if a { b } else { false }
+// What a walk leaves of what it was lent: its stack, its level scratch, its block list and its record list.
+#[derive(Clone, Copy)]
+pub struct Left<'a> {
+    pub stack: &'a [u32],
+    pub scratch: &'a [u64],
+    pub blocks: &'a [u32],
+    pub records: &'a [u8],
 }
 
-// Is every place of both scratches and both lists of a walk `value`?
-fn all_lent(stack: &[u32], scratch: &[u64], blocks: &[u32], records: &[u8], value: u8) -> bool
-    ensures { result ≡ walk_throughout stack.now scratch.now blocks.now records.now value }
-{
-    let lists = both(all32(blocks, value as u32), all8(records, value));
-    both(
-        all32(stack, value as u32),
-        both(all64(scratch, value as u64), lists),
-    )
-}
-
-// After a walk that was refused: is all of it zero?
-pub fn show_state(stack: &[u32], scratch: &[u64], blocks: &[u32], records: &[u8]) -> bool
-    ensures { result ≡ walk_throughout stack.now scratch.now blocks.now records.now 0 }
-{
-    let zero = all_lent(stack, scratch, blocks, records, 0);
-    let kept = all_lent(stack, scratch, blocks, records, 0xEE);
-    if zero {
-        io::write_all(1, b" zero");
-    } else {
-        either(kept, b" kept", b" mixed");
+impl<'a> Left<'a> {
+    // Is every place of it `value`?
+    fn is_throughout(self, value: u8) -> bool
+        ensures { let l = self.entry in result ≡ walk_throughout l.stack.now l.scratch.now l.blocks.now l.records.now value }
+    {
+        places::throughout(self.stack, value as u32)
+            && places::throughout(self.scratch, value as u64)
+            && places::throughout(self.blocks, value as u32)
+            && places::throughout(self.records, value)
     }
-    zero
-}
 
-// After a walk that was done: are both scratches zero?
-pub fn show_scratches(stack: &[u32], scratch: &[u64]) -> bool
-    ensures { result ≡ (throughout stack.now 0 && throughout scratch.now 0) }
-{
-    let zero = both(all32(stack, 0), all64(scratch, 0));
-    either(zero, b" scratches zero", b" scratches dirty");
-    zero
+    // After a walk that was refused: is all of it zero?
+    pub fn show_state(self) -> bool
+        ensures { let l = self.entry in result ≡ walk_throughout l.stack.now l.scratch.now l.blocks.now l.records.now 0 }
+    {
+        let zero = self.is_throughout(0);
+        let kept = self.is_throughout(0xEE);
+        if zero {
+            io::write_all(1, b" zero");
+        } else {
+            either(kept, b" kept", b" mixed");
+        }
+        zero
+    }
+
+    // After a walk that was done: are both scratches zero?
+    pub fn show_scratches(self) -> bool
+        ensures { let l = self.entry in result ≡ (throughout l.stack.now 0 && throughout l.scratch.now 0) }
+    {
+        let zero = places::throughout(self.stack, 0) && places::throughout(self.scratch, 0);
+        either(zero, b" scratches zero", b" scratches dirty");
+        zero
+    }
 }
 
 // Are both lists past the result as they were?
 pub fn show_tails(blocks: &[u32], records: &[u8]) -> bool
     ensures { result ≡ (throughout blocks.now 0xEE && throughout records.now 0xEE) }
 {
-    let kept = both(all32(blocks, 0xEE), all8(records, 0xEE));
+    let kept = places::throughout(blocks, 0xEE) && places::throughout(records, 0xEE);
     either(kept, b" tails kept", b" tails written");
     kept
-}
-
-fn show_block(block: u32) {
-    number(b" ", block as u64);
 }
 
 // The blocks in a list, and how many there are.
 pub fn show_blocks(blocks: &[u32]) -> usize
     ensures { result ≡ length blocks.now }
 {
-    let mut i = 0;
-    while i < blocks.len() {
-        show_block(blocks[i]);
-        i += 1;
+    for block in blocks {
+        number(b" ", *block as u64);
     }
-    i
+    blocks.len()
 }
 
 // Are the bytes of an output from a place on as they were? Past its end nothing is printed.
@@ -77,7 +76,13 @@ pub fn show_tail(out: &[u8], from: usize) -> bool
     if out.len() < from {
         return false;
     }
-    let kept = all8(&out[from..], 0xEE);
+    let kept = places::throughout(&out[from..], 0xEE);
     either(kept, b" kept", b" written");
     kept
+}
+
+// The number that a call came to, after a name for it, or what it refused; and whether the bytes of its output past that number are as they were.
+pub fn show_output<E: Into<Told> + Copy>(done: &[u8], outcome: Result<usize, E>, out: &[u8]) {
+    show_outcome(done, outcome);
+    show_tail(out, outcome.unwrap_or(0));
 }

@@ -1,45 +1,18 @@
-// Whether lent memory holds one value throughout.
-ghost use Rattle.std.specs.Prelude.{◌≡◌};
-ghost use Rattle.show.specs.Places.{throughout};
+// Memory that holds one value throughout.
+ghost use Rattle.std.specs.Prelude.{◌≡◌, length, replicate};
+ghost use Rattle.std.specs.List.{list_all};
 
-// Is every byte that value?
-pub fn all8(b: &[u8], value: u8) -> bool
-    ensures { result ≡ throughout b.now value }
+// Is every place of a slice that value?
+pub fn throughout<T: PartialEq + Copy>(b: &[T], value: T) -> bool
+    ensures { result ≡ list_all (λ x. T.eq x value) b.now }
 {
-    let mut i = 0;
-    while i < b.len() {
-        if b[i] != value {
-            return false;
-        }
-        i += 1;
-    }
-    true
+    b.iter().all(|x| *x == value)
 }
 
-// The same of numbers of 32 bits.
-pub fn all32(b: &[u32], value: u32) -> bool
-    ensures { result ≡ throughout b.now value }
+// An array that does.
+pub fn filled<T: Copy, const N: usize>(value: T) -> [T; N]
+    ensures values { result ≡ replicate N value }
+    ensures long { N ≡ length result }
 {
-    let mut i = 0;
-    while i < b.len() {
-        if b[i] != value {
-            return false;
-        }
-        i += 1;
-    }
-    true
-}
-
-// The same of numbers of 64 bits.
-pub fn all64(b: &[u64], value: u64) -> bool
-    ensures { result ≡ throughout b.now value }
-{
-    let mut i = 0;
-    while i < b.len() {
-        if b[i] != value {
-            return false;
-        }
-        i += 1;
-    }
-    true
+    [value; N]
 }

@@ -28,18 +28,9 @@ pub fn geometry(version: u16, blocksize: u32, agblocks: u32) -> Geometry
 pub fn at_lsn(g: Geometry, last: u64) -> Geometry
     ensures { result ≡ with_lsn g last }
 {
-    let version = g.version;
-    let blocksize = g.blocksize;
-    let agblocks = g.agblocks;
-    let agno = g.agno;
-    let uuid = g.meta_uuid;
     Geometry {
-        version,
-        blocksize,
-        agblocks,
-        agno,
-        meta_uuid: uuid,
         last_lsn: last,
+        ..g
     }
 }
 
@@ -56,27 +47,18 @@ pub fn between(
 )
     ensures { b.new ≡ fresh_between g kind block level numrecs left right b.old }
 {
-    if !g.is_ok() {
-        return;
+    if g.is_ok() && kind.is_in(g.version) && header_len(g.version) <= b.len() {
+        stamp(
+            g,
+            kind,
+            AgBlock(block),
+            level,
+            numrecs,
+            AgBlock(left),
+            AgBlock(right),
+            b,
+        );
     }
-    let version = g.version;
-    if !kind.is_in(version) {
-        return;
-    }
-    let header = header_len(version);
-    if b.len() < header {
-        return;
-    }
-    stamp(
-        g,
-        kind,
-        AgBlock(block),
-        level,
-        numrecs,
-        AgBlock(left),
-        AgBlock(right),
-        b,
-    );
 }
 
 // The same with no siblings.
@@ -107,11 +89,10 @@ fn put(b: &mut [u8], at: usize, value: u8)
 fn seal(b: &mut [u8])
     ensures { b.new ≡ sealed b.old }
 {
-    if b.len() < offsets::V5_HEADER_LEN {
-        return;
+    if offsets::V5_HEADER_LEN <= b.len() {
+        let crc = crc32c_with_zeroed_crc(b, offsets::CRC);
+        put_le32(b, offsets::CRC, crc);
     }
-    let crc = crc32c_with_zeroed_crc(b, offsets::CRC);
-    put_le32(b, offsets::CRC, crc);
 }
 
 // A block damaged at one byte, its check put in again where asked.

@@ -6,13 +6,15 @@ use mathlib.Core.List.{List}
 use lib.ListN.{length}
 use Rattle.blocks.specs.declared.geometry.Geometry.{Geometry}
 use Rattle.lookup.specs.declared.lookup.LookedUp.{LookedUp}
+use Rattle.lookup.specs.declared.refusal.StoppedLookup.{StoppedLookup}
+use Rattle.std.specs.Prelude.{Result}
 use Rattle.lookup.specs.Lookup.{lookup_of}
 use Rattle.lookup.specs.Answer.{Visited, looked_up_report, LookupIs}
 use Rattle.tree_calls.specs.LookupFigures.{ReportsVisits, LookupSays}
 use Rattle.tree_calls.proofs.Reporting.{reports}
 
 module _ {g g' : Geometry} (image : List ℕ) (root levels : ℕ) (asked : List ℕ) {a r : ℕ} {figures said stack stack' answers answers' : List ℕ} (e : g ≡ g') where
-  pub lookup-said : {looked : LookedUp}
+  pub lookup-said : {looked : Result LookedUp StoppedLookup}
       → LookupIs asked (lookup_of g image root levels (length stack) asked (length answers)) looked stack stack' answers answers'
       → ReportsVisits (looked_up_report looked) a figures → (r ≡ a) × (said ≡ figures)
       → LookupSays asked (lookup_of g' image root levels (length stack) asked (length answers)) r said stack stack' answers answers'

@@ -1,134 +1,90 @@
-// What a call on a list, a block or a tree says of each answer.
-ghost use Rattle.std.specs.Prelude.{◌≡◌, List, ℕ};
-ghost use Rattle.codec.specs.Question.{Outcome};
+// What a call on a list, a block or a tree says of what it came to.
+ghost use Rattle.std.specs.Prelude.{◌≡◌, ◌∷◌, []};
 ghost use Rattle.codec.specs.ListRefusal.{list_outcome};
-ghost use Rattle.blocks.specs.Refusal.{checked_outcome};
 ghost use Rattle.walks.specs.WalkAnswer.{walked_report};
+ghost use Rattle.walks.specs.Links.{walked_of, says_yes};
 ghost use Rattle.lookup.specs.Answer.{looked_up_report};
-ghost use Rattle.trees.specs.PlanAnswer.{PlanIs};
-ghost use Rattle.trees.specs.BuildAnswer.{built_outcome};
-ghost use Rattle.interface.specs.Interface.{number_of, Says};
-ghost use Rattle.tree_calls.specs.TreeCalls.{header_figures, plan_figures, build_figures};
+ghost use Rattle.interface.specs.Interface.{number_of};
+ghost use Rattle.tree_calls.specs.TreeCalls.{header_figures};
 ghost use Rattle.tree_calls.specs.WalkFigures.{Reports, yes_figure};
 ghost use Rattle.tree_calls.specs.LookupFigures.{ReportsVisits};
-ghost use Rattle.free.specs.Same.{same_said};
 ghost use Rattle.tree_calls.specs.SameFigures.{same_figures};
 
-use blocks::check::Checked;
-use codec::check::ListChecked;
-use free::same::Same;
+use blocks::check::Header;
+use codec::check::ListRefusal;
+use codec::refusal::Told;
 use interface::answer::{Answer, refused};
 use lookup::lookup::LookedUp;
-use trees::build::Built;
-use trees::plan::{PlanAnswer, Planned};
-use walks::walk::Walked;
+use lookup::refusal::StoppedLookup;
+use trees::plan::Planned;
+use walks::refusal::StoppedWalk;
+use walks::walk::{Linking, Walked};
 
-pub(crate) fn list_number(checked: ListChecked) -> u32
+pub(crate) fn list_number(checked: Result<usize, ListRefusal>) -> u32
     ensures { result ≡ number_of (list_outcome checked) }
 {
     match checked {
-        ListChecked::Accepted(_) => 0,
-        ListChecked::Refused(r) => {
-            let told = r.told();
-            told.number
-        }
+        Ok(_) => 0,
+        Err(r) => Told::from(r).number,
     }
 }
 
-pub(crate) fn checked_answer(checked: Checked) -> Answer
-    ensures { Says header_figures (checked_outcome checked) result.number result.figures }
+pub(crate) fn header_figures(h: Header) -> [u64; 4]
+    ensures { result ≡ header_figures h }
 {
-    match checked {
-        Checked::Good(h) => Answer {
-            number: 0,
-            figures: [
-                h.numrecs as u64,
-                h.maxrecs as u64,
-                h.leftsib.0 as u64,
-                h.rightsib.0 as u64,
-            ],
-        },
-        Checked::Refused(r) => refused(r.told(), 0),
-    }
+    [
+        h.numrecs as u64,
+        h.maxrecs as u64,
+        h.leftsib.0 as u64,
+        h.rightsib.0 as u64,
+    ]
 }
 
-pub(crate) fn planned_answer(planned: Planned) -> Answer
-    ensures { (o : Outcome (List ℕ)) → PlanIs o planned → Says plan_figures o result.number result.figures }
+pub(crate) fn plan_figures(p: Planned) -> [u64; 4]
+    ensures { result ≡ (p.levels ∷ p.total ∷ 0 ∷ 0 ∷ []) }
 {
-    let answer = planned.answer;
-    let total = planned.total;
-    match answer {
-        PlanAnswer::Levels(n) => Answer {
-            number: 0,
-            figures: [n as u64, total, 0, 0],
-        },
-        PlanAnswer::Refused(r) => refused(r.told(), 0),
-    }
+    [p.levels as u64, p.total, 0, 0]
 }
 
 // 1 for yes, 0 for no.
-pub(crate) fn yes_figure(so: bool) -> u64
-    ensures { result ≡ yes_figure so }
+pub(crate) fn same_figures(so: bool) -> [u64; 4]
+    ensures { result ≡ same_figures so }
 {
-    if so {
-        return 1;
-    }
-    0
+    [so as u64, 0, 0, 0]
 }
 
-pub(crate) fn same_answer(same: Same) -> Answer
-    ensures { Says same_figures (same_said same) result.number result.figures }
-{
-    match same {
-        Same::Said(so) => {
-            let yes = yes_figure(so);
-            Answer {
-                number: 0,
-                figures: [yes, 0, 0, 0],
-            }
-        }
-        Same::Refused(r) => refused(r.told(), 0),
-    }
-}
-
-// With a fourth figure for a walk that read its tree.
-pub(crate) fn walked_answer(walked: Walked, fourth: u64) -> Answer
+// With a fourth figure for a walk that read its tree. A walk that is refused tells its visits too, so `answer_of` does not do.
+pub(crate) fn walked_answer(walked: Result<Walked, StoppedWalk>, fourth: u64) -> Answer
     ensures { Reports fourth (walked_report walked) result.number result.figures }
 {
     match walked {
-        Walked::Read {
-            visits,
-            records,
-            bytes,
-        } => Answer {
+        Ok(w) => Answer {
             number: 0,
-            figures: [visits as u64, records as u64, bytes as u64, fourth],
+            figures: [w.visits as u64, w.records as u64, w.bytes as u64, fourth],
         },
-        Walked::Refused { refusal, visits } => refused(refusal.told(), visits as u64),
+        Err(s) => refused(Told::from(s.refusal), s.visits as u64),
     }
 }
 
-pub(crate) fn looked_up_answer(looked: LookedUp) -> Answer
+// With 1 for a tree whose levels are linked, else 0.
+pub(crate) fn linking_answer(linking: Result<Linking, StoppedWalk>) -> Answer
+    ensures { Reports (yes_figure (says_yes linking)) (walked_report (walked_of linking)) result.number result.figures }
+{
+    match linking {
+        Ok(l) => walked_answer(Ok(l.walked), l.linked as u64),
+        Err(s) => walked_answer(Err(s), 0),
+    }
+}
+
+// A lookup that is refused tells its visits too.
+pub(crate) fn looked_up_answer(looked: Result<LookedUp, StoppedLookup>) -> Answer
     ensures { ReportsVisits (looked_up_report looked) result.number result.figures }
 {
     match looked {
-        LookedUp::Found { visits } => Answer {
+        Ok(l) => Answer {
             number: 0,
-            figures: [visits as u64, 0, 0, 0],
+            figures: [l.visits as u64, 0, 0, 0],
         },
-        LookedUp::Refused { refusal, visits } => refused(refusal.told(), visits as u64),
-    }
-}
-
-// Of so many blocks.
-pub(crate) fn built_answer(built: Built, blocks: usize) -> Answer
-    ensures { Says (build_figures blocks) (built_outcome built) result.number result.figures }
-{
-    match built {
-        Built::Done(n) => Answer {
-            number: 0,
-            figures: [blocks as u64, n as u64, 0, 0],
-        },
-        Built::Refused(r) => refused(r.told(), 0),
+        Err(s) => refused(Told::from(s.refusal), s.visits as u64),
     }
 }

@@ -5,11 +5,11 @@ ghost use Rattle.blocks.specs.Check.{check_block};
 ghost use Rattle.interface.specs.Interface.{geometry_of, kind_of, Says};
 ghost use Rattle.tree_calls.specs.TreeCalls.{header_figures};
 
-use crate::answers::checked_answer;
+use crate::answers::header_figures;
 use blocks::check::check_block;
 use blocks::geometry::AgBlock;
 use codec::crc::{crc32c, crc32c_singly};
-use interface::answer::say;
+use interface::answer::{answer_of, say};
 use interface::given::{geometry, tree_kind};
 
 // CRC32C of the bytes. (This call answers the check itself.)
@@ -54,5 +54,5 @@ pub extern "C" fn kf_check_block(
     );
     let tree = tree_kind(kind);
     let checked = check_block(g, tree, AgBlock(block), level, bytes);
-    say(checked_answer(checked), said)
+    say(answer_of(checked, header_figures), said)
 }

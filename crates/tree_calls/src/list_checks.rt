@@ -8,10 +8,10 @@ ghost use Rattle.free.specs.Same.{same_outcome};
 ghost use Rattle.interface.specs.Interface.{number_of, Says};
 ghost use Rattle.tree_calls.specs.SameFigures.{same_figures};
 
-use crate::answers::{list_number, same_answer};
+use crate::answers::{list_number, same_figures};
 use free::order::{Order, check_order};
 use free::same::same_extents;
-use interface::answer::say;
+use interface::answer::{answer_of, say};
 
 // Questions 19 and 20 on a reverse map.
 #[unsafe(no_mangle)]
@@ -51,5 +51,8 @@ pub extern "C" fn kf_check_by_size(list: &[u8]) -> u32
 pub extern "C" fn kf_same_extents(by_block: &[u8], by_size: &[u8], said: &mut [u64; 4]) -> u32
     ensures { Says same_figures (same_outcome by_block.now by_size.now) result said.new }
 {
-    say(same_answer(same_extents(by_block, by_size)), said)
+    say(
+        answer_of(same_extents(by_block, by_size), same_figures),
+        said,
+    )
 }

@@ -1,5 +1,5 @@
 // Calls on whole trees.
-ghost use Rattle.std.specs.Prelude.{length};
+ghost use Rattle.std.specs.Prelude.{◌≡◌, length};
 ghost use Rattle.blocks.specs.Tree.{record_len};
 ghost use Rattle.trees.specs.BuildCall.{build_outcome};
 ghost use Rattle.trees.specs.PlanAnswer.{plan_outcome};
@@ -7,14 +7,14 @@ ghost use Rattle.walks.specs.WalkCall.{walk_of, lent};
 ghost use Rattle.book.specs.Textbook.{textbook_of, lists};
 ghost use Rattle.lookup.specs.Lookup.{lookup_of};
 ghost use Rattle.interface.specs.Interface.{geometry_of, kind_of};
-ghost use Rattle.tree_calls.specs.TreeCalls.{PlanSays, BuildSays};
+ghost use Rattle.tree_calls.specs.TreeCalls.{build_figures, PlanSays, BuildSays};
 ghost use Rattle.tree_calls.specs.WalkFigures.{WalkSays, LinkingSays, TextbookSays};
 ghost use Rattle.tree_calls.specs.LookupFigures.{LookupSays};
 
-use crate::answers::{built_answer, looked_up_answer, planned_answer, walked_answer, yes_figure};
+use crate::answers::{linking_answer, looked_up_answer, plan_figures, walked_answer};
 use blocks::geometry::AgBlock;
 use book::textbook::walk_textbook;
-use interface::answer::say;
+use interface::answer::{answer_of, say};
 use interface::given::{geometry, tree_kind};
 use lookup::lookup::lookup;
 use trees::build::build;
@@ -45,9 +45,9 @@ pub extern "C" fn kf_plan(
     );
     let tree = tree_kind(kind);
     let planned = plan(g, tree, records);
-    let blocks = planned.blocks;
-    let answer = planned_answer(planned);
-    if answer.number == 0 {
+    let answer = answer_of(planned, plan_figures);
+    if let Ok(p) = planned {
+        let blocks = p.blocks;
         *levels = blocks;
     }
     say(answer, said)
@@ -80,10 +80,11 @@ pub extern "C" fn kf_build(
     );
     let tree = tree_kind(kind);
     let blocks = numbers.len();
-    say(
-        built_answer(build(g, tree, list, numbers, out), blocks),
-        said,
-    )
+    let built = build(g, tree, list, numbers, out);
+    let figures = |bytes: usize| -> [u64; 4]
+        ensures { result ≡ build_figures blocks bytes }
+    { [blocks as u64, bytes as u64, 0, 0] };
+    say(answer_of(built, figures), said)
 }
 
 // The records of a tree, from its root, and its blocks by level, leaves first: questions 1, 11 and 12, then at each block 13, 14, 3 to 8, 30, 9, 10 and
@@ -173,9 +174,7 @@ pub extern "C" fn kf_walk_linked(
         blocks,
         records,
     );
-    let walked = linking.walked;
-    let linked = linking.linked;
-    say(walked_answer(walked, yes_figure(linked)), said)
+    say(linking_answer(linking), said)
 }
 
 // The same walk as textbooks have it: one routine reads a block, another its children from left to right. It is lent no stack, so 12 asks for the level

@@ -1,7 +1,7 @@
 -- Going down the plan: where a block's entries begin, and the first record under a block of a level. No block of a plan is without records,
 -- where there are as many records as leaves and no level is wider than the one below.
 -- Assumes nothing.
-use Prim.Native.Nat.{ℕ, zero, suc, ◌+◌, ◌-◌, ◌*◌, ◌/◌, ◌%◌, ◌≤◌, ◌<◌}
+use Prim.Native.Nat.{ℕ, zero, suc, ◌+◌, ◌-◌, ◌/◌, ◌≤◌, ◌<◌}
 use native.Mathlib.Nat.{mul-le-mul_right, div-add-mod', mul_comm, le-div_iff_mul-le}
 use native.Mathlib.Omega.{arith}
 use mathlib.Core.Path.{◌≡◌, sym, ap, ◌∙◌, subst}
@@ -9,14 +9,6 @@ use mathlib.Core.List.{List}
 use lib.ListN.{get_or}
 use Rattle.trees.specs.Plan.{share_of, start_of, first_of}
 use Rattle.trees.proofs.Spans.{start-next}
-
-pub start-low : (n k i : ℕ) → i < n % k → i * (n / k) + i ≡ start_of n k i
-unfolding start_of
-start-low n k i h = omega arith
-
-pub start-high : (n k i : ℕ) → n % k ≤ i → i * (n / k) + n % k ≡ start_of n k i
-unfolding start_of
-start-high n k i h = omega arith
 
 pub start-most : (n k i : ℕ) → 0 < k → i ≤ k → start_of n k i ≤ n
 unfolding start_of

@@ -10,7 +10,7 @@ use mathlib.Core.List.{List, [], ◌∷◌, ◌++◌}
 use lib.Dec.{ltb, leb}
 use lib.ListN.{length, get_or, take, drop, length-drop}
 use lib.Seq.{take_at, drop_at, length-take-le}
-use borrow.Author.Tests.{ltb-true, leb-true, eq-eqb, ne_eqb}
+use borrow.Author.Tests.{ltb-true, leb-true}
 use Rattle.codec.specs.Bytes.{bytes_at, with_bytes}
 use Rattle.codec.specs.Records.{Kind, first_records, records_of, rmaps}
 use Rattle.codec.specs.Rmaps.{end, file_offset, exempt, good, follows, accepted, least}
@@ -73,21 +73,6 @@ in-order-good q (r ∷ rs) d e (suc i) h = in-order-good r rs d (both (follows q
 pub accepted-good : (l : List ℕ) → accepted (records_of rmaps l) ≡ true → AllGood l
 accepted-good l e i h =
     ap good (sym (get_d-records_of rmaps l i least h)) ∙ in-order-good least (records_of rmaps l) least e i (omega (arith, length-records_of rmaps l))
-
--- ---- the order of keys, by the first number that differs
-
-module _ (j k : RmapKey) where
-  pub below-start : (j.start ≡ k.start → ⊥) → ltb j.start k.start ≡ key_below j k
-  unfolding key_below
-  below-start h = simp (ne_eqb _ _ h)
-
-  pub below-owner : j.start ≡ k.start → (j.owner ≡ k.owner → ⊥) → ltb j.owner k.owner ≡ key_below j k
-  unfolding key_below
-  below-owner a h = simp (eq-eqb _ _ a, ne_eqb _ _ h)
-
-  pub below-offset : j.start ≡ k.start → j.owner ≡ k.owner → ltb (j.offset % 2 ^ 54) (k.offset % 2 ^ 54) ≡ key_below j k
-  unfolding key_below
-  below-offset a b = simp (eq-eqb _ _ a, eq-eqb _ _ b)
 
 -- ---- the records in a part of a list of bytes
 

@@ -20,7 +20,7 @@ use Rattle.walks.specs.Links.{next}
 use Rattle.trees.specs.BlockLayout.{Links, Layout, Sized}
 use Rattle.trees.specs.Build.{Block, output, leaf_part, leaf_parts, blocks_of, block_bytes}
 use Rattle.trees.specs.BuildCall.{layout_of}
-use Rattle.trees.specs.Inner.BuildNeeds.{Leaves}
+use Rattle.trees.specs.Inner.BuildNeeds.{Given, Leaves}
 use Rattle.trees.proofs.Sharing.{share-most, shares_sum}
 use Rattle.trees.proofs.BlockBytes.{block-length, leaf-roomy}
 use Rattle.trees.proofs.TreeKinds.{sized, count_small}
@@ -71,12 +71,12 @@ module _ (g : Geometry) (kind : TreeKind) (list blocks : List ℕ) where
     pub written : Written before out (output (leaves_from 0 0 null_ag_block)) (i * g.blocksize) (leaves_from i from left)
     pub all : from + sum (shares_from n k i (k - i)) * w ≡ length list
 
-  pub leaves-start : (before : List ℕ) → Leaves g kind list blocks before → LeavesSo before before 0 0 null_ag_block
-  leaves-start before q =
+  pub leaves-start : (before : List ℕ) → Given g kind list → Leaves g kind list blocks before → LeavesSo before before 0 0 null_ag_block
+  leaves-start before gv q =
       record {
         most = omega arith;
         written = rw zero-mul (written_none before (output (leaves_from 0 0 null_ag_block)) (leaves_from 0 0 null_ag_block) refl);
-        all = rw (sub-zero, zero-add) (ap (λ (x : ℕ). x * w) (shares_sum n k q.some) ∙ q.given.whole);
+        all = rw (sub-zero, zero-add) (ap (λ (x : ℕ). x * w) (shares_sum n k q.some) ∙ gv.whole);
       }
 
   pub leaves-done : (before out : List ℕ) (i from left : ℕ) → LeavesSo before out i from left → i ≡ k
@@ -95,13 +95,13 @@ module _ (g : Geometry) (kind : TreeKind) (list blocks : List ℕ) where
         → ys ≡ block_bytes t 0 (get_or blocks i 0) (record { left = left; right = right }) (leaf_part r (take (from + r * v - from) (drop from list)))
         → LeavesSo before (put_mid (i * g.blocksize) (i * g.blocksize + g.blocksize - i * g.blocksize) out ys) (i + 1) (from + r * v) (get_or blocks i 0)
 
-  module _ (before out : List ℕ) (i from left r v : ℕ) (q : Leaves g kind list blocks before) (uuid : length g.meta_uuid ≡ 16)
+  module _ {before out : List ℕ} {i from left r v : ℕ} (gv : Given g kind list) (q : Leaves g kind list blocks before) (uuid : length g.meta_uuid ≡ 16)
       (s : LeavesSo before out i from left) (h : i < k) (ve : v ≡ w) (re : r ≡ share_of (length list / v) k i) where
     abbrev c : ℕ
     c = share_of n k i
 
     z : Sized t
-    z = sized g kind q.given.ok q.given.tree uuid
+    z = sized g kind gv.ok gv.tree uuid
 
     count-is : r ≡ c
     count-is = re ∙ ap (λ (x : ℕ). share_of (length list / x) k i) ve
@@ -150,7 +150,7 @@ module _ (g : Geometry) (kind : TreeKind) (list blocks : List ℕ) where
         record {
           inside = omega (arith, bytes-are, all-next);
           room = omega (arith, bytes-are, mul-le-mul_right w count_most, div-mul-le_self (g.blocksize - header_len g.version) w, z.header_fits);
-          small = omega (arith, count-is, count_small g kind q.given.ok q.given.tree 0 c count_most);
+          small = omega (arith, count-is, count_small g kind gv.ok gv.tree 0 c count_most);
           ends = ends;
           next = step;
         }

@@ -22,7 +22,7 @@ use Rattle.trees.specs.Plan.{first_of}
 use Rattle.trees.specs.Build.{Child, padded, keys_of, pointers_of}
 use Rattle.trees.specs.Keys.{rmap_keys, first_key, records_between, AllGood}
 use Rattle.trees.specs.BuildCall.{keys_under}
-use Rattle.trees.specs.Inner.BuildNeeds.{Under, Planned, Children, pointer_bytes, span_children, level_children}
+use Rattle.trees.specs.Inner.BuildNeeds.{Keyed, Under, Planned, Children, pointer_bytes, span_children, level_children}
 use Rattle.trees.proofs.TreeKinds.{keys_long}
 use Rattle.trees.proofs.Going.{first_ends}
 use Rattle.trees.proofs.KeyLaws.{records-part}
@@ -85,8 +85,8 @@ module _ (kind : TreeKind) (list b : List ℕ) (from to at : ℕ) (u : Under kin
     under : Under Rmap list from to
     under = subst (λ (k : TreeKind). Under k list from to) (overlapping-is kind e) u
 
-    pub rmap-given : at + keys_len kind ≤ length b → ((from < to) × (to ≤ length list / 24) × AllGood list) × (at + 40 ≤ length b)
-    rmap-given h = ((under.some, under.inside, under.keyed refl), subst (λ (k : TreeKind). at + keys_len k ≤ length b) (overlapping-is kind e) h)
+    pub rmap-given : Keyed kind list → at + keys_len kind ≤ length b → ((from < to) × (to ≤ length list / 24) × AllGood list) × (at + 40 ≤ length b)
+    rmap-given keyed h = ((under.some, under.inside, keyed e), subst (λ (k : TreeKind). at + keys_len k ≤ length b) (overlapping-is kind e) h)
 
     pub keys-rmap : (x : List ℕ) → x ≡ with_bytes b at (rmap_keys (records_between rmaps list from to)) → x ≡ keys_at kind list b from to at
     keys-rmap x h =
@@ -214,10 +214,10 @@ module _ (kind : TreeKind) (list levels : List ℕ) (level child : ℕ) (below b
         → b' ≡ with_bytes b (at + j * m) (keys_under kind (bytes_at list (from * record_len kind) (to * record_len kind - from * record_len kind)))
         → KeysSo b' to (j + 1)
 
-  pub key-round : (b : List ℕ) (from j to m v : ℕ) → Children kind list levels level child below → at + length below * keys_len kind ≤ length before
+  pub key-round : {b : List ℕ} {from j to m v : ℕ} → Children kind list levels level child below → at + length below * keys_len kind ≤ length before
       → KeysSo b from j → j < length below → m ≡ keys_len kind → v ≡ record_len kind → to ≡ first_of (length list / v) levels level (child + j + 1)
       → KeyRound b from j to m
-  key-round b from j to m v q room s h me ve te =
+  key-round {b} {from} {j} {to} {m} {v} q room s h me ve te =
       let f : ℕ → ℕ = first_of n levels level in
       let w : ℕ = record_len kind in
       let to_is : to ≡ f (suc (child + j)) = te ∙ ap₂ (λ (x y : ℕ). first_of (length list / x) levels level y) ve (add-one (child + j)) in
@@ -229,7 +229,6 @@ module _ (kind : TreeKind) (list levels : List ℕ) (level child : ℕ) (below b
             record {
               some = subst₂ (λ (x y : ℕ). x < y) (sym s.place) (sym to_is) (q.planned.rises (child + j) (omega (arith, q.last)));
               inside = subst (λ (x : ℕ). x ≤ n) (sym to_is) (first_ends n levels level (suc (child + j)) q.planned.some (omega (arith, q.last)));
-              keyed = q.keyed;
             };
         room = omega arith;
         next = λ b' l e.
@@ -248,3 +247,12 @@ module _ (kind : TreeKind) (list levels : List ℕ) (level child : ℕ) (below b
 -- what `first` is asked, where the record's length is at hand
 pub planned-by : (kind : TreeKind) (list levels : List ℕ) (level v : ℕ) → v ≡ record_len kind → Planned (length list / record_len kind) levels level → Planned (length list / v) levels level
 planned-by kind list levels level v e p = subst (λ (x : ℕ). Planned (length list / x) levels level) (sym e) p
+
+-- a level has no more blocks than there are records
+module _ (n : ℕ) (levels : List ℕ) (level : ℕ) (p : Planned n levels level) where
+  climbs : (m : ℕ) → m ≤ get_or levels level 0 → m ≤ first_of n levels level m
+  climbs zero h = omega arith
+  climbs (suc m) h = omega (arith, climbs m (omega arith), p.rises m (omega arith))
+
+  pub level-most : get_or levels level 0 ≤ n
+  level-most = omega (arith, climbs (get_or levels level 0) (omega arith), first_ends n levels level (get_or levels level 0) p.some (omega arith))

@@ -22,7 +22,7 @@ use Rattle.walks.specs.Links.{next}
 use Rattle.trees.specs.BlockLayout.{Links, Layout, Sized}
 use Rattle.trees.specs.Build.{Child, Block, output, keys_of, pointers_of, node_part, node_parts, blocks_of, block_bytes}
 use Rattle.trees.specs.BuildCall.{keys_under, layout_of}
-use Rattle.trees.specs.Inner.BuildNeeds.{level_children, pointer_bytes, Node, Nodes, nodes_above}
+use Rattle.trees.specs.Inner.BuildNeeds.{level_children, pointer_bytes, Given, Node, Nodes, nodes_above}
 use Rattle.trees.proofs.Sharing.{share-most, shares_sum}
 use Rattle.trees.proofs.BlockBytes.{block-length, node-roomy}
 use Rattle.trees.proofs.TreeKinds.{sized, count_small, header-within, keys_long}
@@ -49,16 +49,16 @@ module _ (g : Geometry) (kind : TreeKind) (list levels : List ℕ) (level child 
         (with_bytes (with_bytes (replicate (length b) 0) head (keys_of (keys_under kind) cs)) (head + (g.blocksize - head) / entry * keys) (pointer_bytes below))
         ≡ block_bytes (layout_of g kind) (level + 1) number x (node_part (layout_of g kind) cs)
 
-  pub node-room : (head entry keys : ℕ) → Node g kind list levels level child below b → head ≡ header_len g.version → entry ≡ entry_len kind → keys ≡ keys_len kind
+  pub node-room : {head entry keys : ℕ} → Given g kind list → Node g kind list levels level child below b → head ≡ header_len g.version → entry ≡ entry_len kind → keys ≡ keys_len kind
       → NodeRoom head entry keys
-  node-room head entry keys q he ee ke =
+  node-room {head} {entry} {keys} gv q he ee ke =
       let t : Layout = layout_of g kind in
       let size : ℕ = g.blocksize in
       let header : ℕ = header_len g.version in
       let per : ℕ = per_node t.shape in
       let f : ℕ → ℕ = first_of (length list / record_len kind) levels level in
-      let h56 : header ≤ 56 = header-within g kind q.given.ok q.given.tree in
-      let big : 512 ≤ size = (blocksize-within g q.given.ok).0 in
+      let h56 : header ≤ 56 = header-within g kind gv.ok gv.tree in
+      let big : 512 ≤ size = (blocksize-within g gv.ok).0 in
       let room : (size - head) / entry * keys ≡ per * keys_len kind =
       ap₂ (λ (x y : ℕ). (size - x) / y * keys) he ee ∙ ap (λ (x : ℕ). per * x) ke in
       let d : per * (keys_len kind + 4) ≤ size - header = div-mul-le_self (size - header) (keys_len kind + 4) in
@@ -74,7 +74,7 @@ module _ (g : Geometry) (kind : TreeKind) (list levels : List ℕ) (level child 
         room_in = omega arith;
         keys_in = omega arith;
         pointers-in = omega (arith, q.most);
-        small = count_small g kind q.given.ok q.given.tree 1 (length below) q.most;
+        small = count_small g kind gv.ok gv.tree 1 (length below) q.most;
         made = λ number links.
             ap₂ (λ (x : ℕ) (y : List ℕ). stamped g kind number (level + 1) x links.left links.right y)
             (sym (span-count (record_len kind) list f child below))
@@ -153,13 +153,13 @@ module _ (g : Geometry) (kind : TreeKind) (list levels : List ℕ) (level : ℕ)
         → ys ≡ block_bytes t (level + 1) (get_or blocks i 0) (record { left = left; right = right }) (node_part t (level_children kind list levels level child (take (child + r - child) (drop child below))))
         → NodesSo before (put_mid (i * g.blocksize) (i * g.blocksize + g.blocksize - i * g.blocksize) out ys) (i + 1) (child + r) (get_or blocks i 0)
 
-  module _ (before out : List ℕ) (i child left r : ℕ) (q : Nodes g kind list levels level below blocks before) (uuid : length g.meta_uuid ≡ 16)
+  module _ {before out : List ℕ} {i child left r : ℕ} (gv : Given g kind list) (q : Nodes g kind list levels level below blocks before) (uuid : length g.meta_uuid ≡ 16)
       (s : NodesSo before out i child left) (h : i < k) (re : r ≡ share_of m k i) where
     abbrev whole : List ℕ
     whole = output (nodes_above g kind list levels level below blocks)
 
     z : Sized t
-    z = sized g kind q.given.ok q.given.tree uuid
+    z = sized g kind gv.ok gv.tree uuid
 
     count_most : r ≤ per_node t.shape
     count_most = subst (λ (x : ℕ). x ≤ per_node t.shape) (sym re) (share-most m k i (per_node t.shape) q.some q.room)
@@ -179,8 +179,7 @@ module _ (g : Geometry) (kind : TreeKind) (list levels : List ℕ) (level : ℕ)
     node-here : (b : List ℕ) → length b ≡ g.blocksize → Node g kind list levels level child (take r (drop child below)) b
     node-here b e =
         record {
-          given = q.given;
-          children = record { keyed = q.given.keyed; planned = q.planned; last = omega (arith, part_length, all-next, q.all) };
+          children = record { planned = q.planned; last = omega (arith, part_length, all-next, q.all) };
           most = omega (arith, part_length, count_most);
           shallow = q.shallow;
           long = e;

@@ -1,27 +1,39 @@
 -- Laws of the plan.
 -- Assumes nothing.
-use Prim.Native.Nat.{ℕ, zero, suc, ◌+◌, ◌-◌, ◌*◌, ◌/◌, ◌^◌, ◌≤◌, ◌<◌, max}
-use native.Mathlib.Nat.{add-div_right, div-eq_of_lt, div-le_self, div-mul-le_self, mul-le-mul, mul-le-mul_right, mul_comm, suc-mul, zero-add, le_refl}
+use Prim.Native.Nat.{ℕ, zero, suc, ◌+◌, ◌-◌, ◌*◌, ◌/◌, ◌^◌, ◌%◌, ◌≤◌, ◌<◌, max, min}
+use native.Mathlib.Nat.{add-div_right, div-eq_of_lt, div-le_self, div-mul-le_self, mul-le-mul, mul-le-mul_right, mul_comm, suc-mul, zero-add, le_refl, div-add-mod', mod-lt}
 use native.Mathlib.Numerals.{add-one}
 use native.Mathlib.Omega.{arith}
 use mathlib.Core.Path.{◌≡◌, refl, sym, ap, ap₂, ◌∙◌}
-use mathlib.Core.Bool.{true, false}
+use mathlib.Core.Bool.{false}
+use Rattle.std.specs.Prelude.{Option, Some, None, Ok}
+use Rattle.std.specs.Option.{ok_or}
+use Rattle.std.specs.Int.{div_ceil}
+use Rattle.std.proofs.lemmas.Nat.{div-mul-add}
 use mathlib.Core.List.{List, [], ◌∷◌, ◌++◌, append_assoc, append-nil}
 use lib.ListN.{length, replicate, take, drop, set, length-append, length-set, take-append-drop}
 use lib.Seq.{length-take-le, take-suc-set, drop-set-lt, drop-drop, take-append_seam}
 use lib.Dec.{leb}
 use borrow.Author.Tests.{le-leb, lt-leb, leb-true}
 use Rattle.codec.specs.Question.{done, ask, answer}
-use Rattle.trees.specs.declared.plan.LevelPlan.{LevelPlan}
-use Rattle.trees.specs.declared.plan.PlanAnswer.TheVariants.{Levels, Refused}
+use Rattle.trees.specs.declared.plan.Planned.{Planned}
 use Rattle.trees.specs.declared.plan.PlanRefusal.TheVariants as why
 use Rattle.trees.specs.Plan.{ceil, leaves, above, levels_of, sum}
-use Rattle.trees.specs.PlanAnswer.{places_of, PlanIs}
-use Rattle.trees.specs.Inner.LevelPlans.{LevelsAre}
+use Rattle.trees.specs.PlanAnswer.{PlanIs}
+use Rattle.trees.specs.Inner.LevelPlans.{PlanOf, LevelsAre}
 
 pub ceil-zero : (b : ℕ) → 0 < b → ceil 0 b ≡ 0
 unfolding ceil
 ceil-zero b h = div-eq_of_lt (omega arith)
+
+-- as the library rounds up
+rounded : (q r b : ℕ) → r < b → (q * b + r + (b - 1)) / b ≡ q + min 1 r
+rounded q zero b l = ap (λ (x : ℕ). x / b) (let e : q * b + 0 + (b - 1) ≡ q * b + (b - 1) = omega arith in e) ∙ div-mul-add q b (b - 1) (omega arith) ∙ omega arith
+rounded q (suc r) b l = ap (λ (x : ℕ). x / b) (let e : q * b + suc r + (b - 1) ≡ suc q * b + r = omega (arith, suc-mul q b) in e) ∙ div-mul-add (suc q) b r (omega arith) ∙ omega arith
+
+pub ceil-is : (a b : ℕ) → 0 < b → ceil a b ≡ div_ceil a b
+unfolding ceil
+ceil-is a b h = ap (λ (x : ℕ). (x + (b - 1)) / b) (sym (div-add-mod' a b)) ∙ rounded (a / b) (a % b) b (mod-lt a h)
 
 pub ceil-pos : (a b : ℕ) → 0 < a → 0 < b → ceil a b ≡ (a - 1) / b + 1
 unfolding ceil
@@ -123,17 +135,14 @@ module _ {p top : ℕ} {ls blocks : List ℕ} {below total n : ℕ} (g : Grown p
   grown-length : below ≤ 1 → length ls ≡ n
   grown-length h = ap length (sym (grown-all h)) ∙ length-take-le n blocks (omega (arith, g.len, g.most))
 
-  pub grown-done : below ≤ 1 → LevelsAre ls (record { few = true; levels = n; blocks = blocks; total = total })
+  pub grown-done : below ≤ 1 → PlanOf ls (record { levels = n; blocks = blocks; total = total })
   grown-done h =
       let e = grown-length h in
-      let t : leb (length ls) 9 ≡ true = rw e (le-leb n 9 g.most) in
       record {
-        few = sym t;
-        levels = rw t (sym e);
-        places =
-            rw t
-            (sym (take-append-drop n blocks) ∙ ap₂ (λ (x y : List ℕ). x ++ y) (grown-all h) (g.rest ∙ ap (λ (k : ℕ). replicate (9 - k) 0) (sym e)));
-        all = rw t (g.summed ∙ ap sum (grown-all h));
+        few = rw e (le-leb n 9 g.most);
+        levels = sym e;
+        places = sym (take-append-drop n blocks) ∙ ap₂ (λ (x y : List ℕ). x ++ y) (grown-all h) (g.rest ∙ ap (λ (k : ℕ). replicate (9 - k) 0) (sym e));
+        all = g.summed ∙ ap sum (grown-all h);
       }
 
   -- nine levels are full and more are to come
@@ -146,11 +155,8 @@ module _ {p top : ℕ} {ls blocks : List ℕ} {below total n : ℕ} (g : Grown p
       ∙ ap (λ (l : List ℕ). length (take n blocks) + length l) o
       ∙ omega (arith, length-take-le n blocks (omega (arith, g.len, g.most)))
 
-  pub grown-refused : 1 < below → n ≡ 9 → LevelsAre ls (record { few = false; levels = 0; blocks = replicate 9 0; total = 0 })
-  unfolding sum
-  grown-refused h e =
-      let t : leb (length ls) 9 ≡ false = rw (grown-over h e) refl in
-      record { few = sym t; levels = rw t refl; places = rw t refl; all = rw t refl }
+  pub grown-refused : 1 < below → n ≡ 9 → leb (length ls) 9 ≡ false
+  grown-refused h e = rw (grown-over h e) refl
 
 grown-first : (p b : ℕ) (places : List ℕ) → length places ≡ 9 → places ≡ replicate 9 0 → Grown p b (b ∷ above p b 9) (set places 0 b) b b 1
 unfolding sum
@@ -172,33 +178,22 @@ grown-start per_leaf p records b e = rw (← e) (grown-first p b (replicate 9 0)
 
 -- ---- what a plan says of its levels
 
-module _ (ls : List ℕ) (p : LevelPlan) (is : LevelsAre ls p) where
-  module _ (f : p.few ≡ true) where
-    has-few : leb (length ls) 9 ≡ true
-    has-few = sym is.few ∙ f
+module _ (ls : List ℕ) (p : Planned) (is : PlanOf ls p) where
+  pub few-most : length ls ≤ 9
+  few-most = leb-true (length ls) 9 is.few
 
-    few-levels : p.levels ≡ length ls
-    few-levels = is.levels ∙ rw has-few refl
+  pub few-taken : take p.levels p.blocks ≡ ls
+  few-taken = ap₂ (λ (n : ℕ) (l : List ℕ). take n l) is.levels is.places ∙ take-append_seam ls (replicate (9 - length ls) 0)
 
-    few-places : p.blocks ≡ places_of ls
-    few-places = is.places ∙ rw has-few refl
+  pub few-inside : p.levels ≤ length p.blocks
+  few-inside = omega (arith, is.levels, few-most, ap length is.places, length-append ls (replicate (9 - length ls) 0))
 
-    pub few-most : length ls ≤ 9
-    few-most = leb-true (length ls) 9 has-few
+  plan-few : PlanIs (answer (ask 16 (leb (length ls) 9) ∷ []) (done ls)) (Ok p)
+  plan-few =
+      rw is.few (record { outcome = ap done few-taken; levels = is.levels; few = omega (arith, is.levels, few-most); places = is.places; all = is.all })
 
-    pub few-taken : take p.levels p.blocks ≡ ls
-    few-taken = ap₂ (λ (n : ℕ) (l : List ℕ). take n l) few-levels few-places ∙ take-append_seam ls (replicate (9 - length ls) 0)
-
-    pub few-inside : p.levels ≤ length p.blocks
-    few-inside = omega (arith, few-levels, few-most, ap length few-places, length-append ls (replicate (9 - length ls) 0))
-
-    pub few-all : p.total ≡ sum ls
-    few-all = is.all ∙ rw has-few refl
-
-    pub plan-few : PlanIs (answer (ask 16 (leb (length ls) 9) ∷ []) (done ls)) (record { answer = Levels p.levels; blocks = p.blocks; total = p.total })
-    plan-few = rw has-few (record { outcome = ap done few-taken; levels = few-levels; few = omega (arith, few-levels, few-most); places = few-places; all = few-all })
-
-  pub plan-many : p.few ≡ false → PlanIs (answer (ask 16 (leb (length ls) 9) ∷ []) (done ls)) (record { answer = Refused why.Levels; blocks = p.blocks; total = p.total })
-  plan-many f =
-      let t : leb (length ls) 9 ≡ false = sym is.few ∙ f in
-      rw t (record { outcome = refl; levels = refl; few = omega arith; places = is.places ∙ rw t refl; all = is.all ∙ rw t refl })
+-- the plan, or 16
+pub plan-or : (ls : List ℕ) (o : Option Planned) → LevelsAre ls o → PlanIs (answer (ask 16 (leb (length ls) 9) ∷ []) (done ls)) (ok_or o why.Levels)
+unfolding sum
+plan-or ls (Some p) is = plan-few ls p is
+plan-or ls None t = rw t (record { outcome = refl; levels = refl; few = omega arith; places = refl; all = refl })

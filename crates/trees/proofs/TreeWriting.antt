@@ -22,7 +22,7 @@ use Rattle.walks.specs.Walk.{per_leaf, per_node}
 use Rattle.trees.specs.BlockLayout.{Layout, Sized}
 use Rattle.trees.specs.Build.{Child, Block, output, leaf_parts, node_parts, blocks_of, children_of, build_above, build_plan, build}
 use Rattle.trees.specs.BuildCall.{layout_of, built_bytes}
-use Rattle.trees.specs.Inner.BuildNeeds.{Planned, level_children, span_children, Leaves, Nodes, nodes_above, levels_above, Tree}
+use Rattle.trees.specs.Inner.BuildNeeds.{Given, Laid, Planned, level_children, span_children, Leaves, Nodes, nodes_above, levels_above, Tree}
 use Rattle.trees.proofs.Sharing.{split, tests, ceil-some, Shaped, shares-most, shares_sum, shares-length, leaves-some, leaves-room, above-shaped}
 use Rattle.trees.proofs.PlanLaws.{ceil-zero}
 use Rattle.trees.proofs.LevelWalk.{numbers_of, numbers-of-children, parts-length}
@@ -208,9 +208,9 @@ module _ (g : Geometry) (kind : TreeKind) (list levels numbers before : List ℕ
       (subst (λ (x : List ℕ). Written before out whole (base * size) (build_above t (suc l) x (drop base numbers) (level_children kind list levels l 0 (part low base)))) none s.written)
       ∙ with_bytes-after before far (output (levels_above g kind list levels numbers)) le
 
-  module _ (q : Tree g kind list levels numbers before) (uuid : length g.meta_uuid ≡ 16) where
+  module _ (gv : Given g kind list) (ld : Laid g kind list levels) (q : Tree g levels numbers before) (uuid : length g.meta_uuid ≡ 16) where
     z : Sized t
-    z = sized g kind q.given.ok q.given.tree uuid
+    z = sized g kind gv.ok gv.tree uuid
 
     -- ---- the leaves
 
@@ -222,7 +222,7 @@ module _ (g : Geometry) (kind : TreeKind) (list levels numbers before : List ℕ
 
     levels-are : levels ≡ k₀ ∷ ks₀
     unfolding levels_of
-    levels-are = q.plan
+    levels-are = ld.plan
 
     first-is : get_or levels 0 0 ≡ k₀
     first-is = ap (λ (x : List ℕ). get_or x 0 0) levels-are
@@ -259,7 +259,7 @@ module _ (g : Geometry) (kind : TreeKind) (list levels numbers before : List ℕ
     pub begun : Begun
     begun =
         let n : ℕ = length list / record_len kind in
-        let sh : Shaped per k₀ ks₀ = above-shaped per k₀ 9 z.node_some (leaves-some (per_leaf t.shape) n) (omega (arith, q.few, ap length levels-are)) in
+        let sh : Shaped per k₀ ks₀ = above-shaped per k₀ 9 z.node_some (leaves-some (per_leaf t.shape) n) (omega (arith, ld.few, ap length levels-are)) in
         let same : levels_above g kind list levels numbers ≡ above_from 0 0 (get_or levels 0 0) = rw sub-zero refl in
         record {
           some_level = omega (arith, ap length levels-are);
@@ -284,7 +284,7 @@ module _ (g : Geometry) (kind : TreeKind) (list levels numbers before : List ℕ
           → ys ≡ with_bytes part 0 (output (blocks_of t 0 null_ag_block (take (k - 0) (drop 0 numbers)) (leaf_parts t (shares (length list / record_len kind) (length (take (k - 0) (drop 0 numbers)))) list)))
           → out ≡ with_bytes (put_mid 0 (k * size - 0) before ys) far (output (levels_above g kind list levels numbers))
           → out ≡ with_bytes before 0 (built_bytes g kind list numbers)
-      pub again : (out : List ℕ) → length out ≡ length before → Tree g kind list levels numbers out
+      pub again : (out : List ℕ) → length out ≡ length before → Tree g levels numbers out
 
     pub leaves-first : (k : ℕ) → k ≡ get_or levels 0 0 → LeavesFirst k
     leaves-first k ke =
@@ -308,7 +308,6 @@ module _ (g : Geometry) (kind : TreeKind) (list levels numbers before : List ℕ
           leaves-for = λ out e.
               rw cut
               (record {
-                given = q.given;
                 some = omega (arith, len);
                 room = rw len room;
                 long = omega (arith, ap (λ (x : ℕ). x * size) len);
@@ -322,12 +321,12 @@ module _ (g : Geometry) (kind : TreeKind) (list levels numbers before : List ℕ
               (let y : far ≡ 0 + length (output X) = ap (λ (x : ℕ). x * size) (sym ke) ∙ sym xl ∙ sym (zero-add (length (output X))) in y)
               ∙ with_bytes-add before 0 (output X) above-all (omega arith)
               ∙ ap (with_bytes before 0) (sym (output-append X (levels_above g kind list levels numbers)) ∙ ap output (sym (build-is k kk ke)));
-          again = λ out e. record { given = q.given; plan = q.plan; few = q.few; blocks = q.blocks; long = omega (arith, q.long) };
+          again = λ out e. record { blocks = q.blocks; long = omega (arith, q.long) };
         }
 
     -- ---- the level above level l
 
-    module _ (out : List ℕ) (l low base k : ℕ) (s : TreeSo out l low base) (h : suc l < length levels) (ke : k ≡ get_or levels (suc l) 0) where
+    module _ {out : List ℕ} {l low base k : ℕ} (s : TreeSo out l low base) (h : suc l < length levels) (ke : k ≡ get_or levels (suc l) 0) where
       abbrev ks : List ℕ
       ks = drop (suc (suc l)) levels
 
@@ -366,7 +365,7 @@ module _ (g : Geometry) (kind : TreeKind) (list levels numbers before : List ℕ
       cut = ap (λ (x : ℕ). take x (drop base numbers)) (add-sub_cancel_left base k)
 
       planned : Planned (length list / record_len kind) levels l
-      planned = plan-planned (per_leaf t.shape) per (length list / record_len kind) l levels z.leaf_some z.node_some q.plan h
+      planned = plan-planned (per_leaf t.shape) per (length list / record_len kind) l levels z.leaf_some z.node_some ld.plan h
 
       ends : (base + k) * size ≤ length before
       ends = let le : base + k ≤ length numbers = omega (arith, left-next) in omega (arith, mul-le-mul_right size le, q.long)
@@ -420,12 +419,11 @@ module _ (g : Geometry) (kind : TreeKind) (list levels numbers before : List ℕ
             nodes-for = λ part e.
                 rw cut
                 (record {
-                  given = q.given;
                   planned = planned;
                   all = below_length;
                   some = omega (arith, numbers-length', shaped-next.0);
                   room = subst₂ (λ (x y : ℕ). x ≤ y * per) (sym below_length) (sym numbers-length') shaped-next.1;
-                  shallow = omega (arith, q.few);
+                  shallow = omega (arith, ld.few);
                   long = omega (arith, ap (λ (x : ℕ). x * size) numbers-length');
                 });
             next = λ part ys pl e.

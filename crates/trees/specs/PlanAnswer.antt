@@ -1,12 +1,10 @@
 -- What a plan comes to, and what its answer says.
 -- Assumes nothing.
-use Rattle.std.specs.Prelude.{ℕ, ◌-◌, ◌≤◌, ◌≡◌, List, [], ◌∷◌, ◌++◌, length, take, replicate}
+use Rattle.std.specs.Prelude.{ℕ, ◌-◌, ◌≤◌, ◌≡◌, List, [], ◌∷◌, ◌++◌, length, take, replicate, Result, Ok, Err}
 use Rattle.codec.specs.Question.{Values, none, Outcome, done, refused, ask, answer}
 use Rattle.blocks.specs.declared.geometry.Geometry.{Geometry}
 use Rattle.blocks.specs.declared.kind.TreeKind.{TreeKind}
 use Rattle.blocks.specs.Geometry.{geometry_ok}
-use Rattle.trees.specs.declared.plan.PlanAnswer.{PlanAnswer}
-use Rattle.trees.specs.declared.plan.PlanAnswer.TheVariants.{Levels, Refused}
 use Rattle.trees.specs.declared.plan.PlanRefusal.{PlanRefusal}
 use Rattle.trees.specs.declared.plan.PlanRefusal.TheVariants as why
 use Rattle.trees.specs.declared.plan.Planned.{Planned}
@@ -36,19 +34,27 @@ plan_number why.Levels = 16
 abbrev pub plan_values : PlanRefusal → Values
 plan_values r = none
 
-abbrev pub answer_outcome : PlanAnswer → List ℕ → Outcome (List ℕ)
-answer_outcome (Levels n) blocks = done (take n blocks)
-answer_outcome (Refused r) blocks = refused (plan_number r) (plan_values r)
+abbrev pub answer_outcome : Result Planned PlanRefusal → Outcome (List ℕ)
+answer_outcome (Ok p) = done (take p.levels p.blocks)
+answer_outcome (Err r) = refused (plan_number r) (plan_values r)
 
--- how many levels an answer says
-abbrev pub levels_said : PlanAnswer → ℕ
-levels_said (Levels n) = n
-levels_said (Refused r) = 0
+-- how many levels an answer says, its nine places, and the number of all blocks: a refusal has none
+abbrev pub levels_said : Result Planned PlanRefusal → ℕ
+levels_said (Ok p) = p.levels
+levels_said (Err r) = 0
+
+abbrev pub places_said : Result Planned PlanRefusal → List ℕ
+places_said (Ok p) = p.blocks
+places_said (Err r) = replicate 9 0
+
+abbrev pub total_said : Result Planned PlanRefusal → ℕ
+total_said (Ok p) = p.total
+total_said (Err r) = 0
 
 -- an answer that says what a plan comes to, with its places and the number of all blocks, which are zero where it was refused
-pub record PlanIs (o : Outcome (List ℕ)) (p : Planned) : Type 0 where
-  pub outcome : answer_outcome p.answer p.blocks ≡ o
-  pub levels : levels_said p.answer ≡ length (levels_in o)
-  pub few : levels_said p.answer ≤ 9
-  pub places : p.blocks ≡ places_of (levels_in o)
-  pub all : p.total ≡ sum (levels_in o)
+pub record PlanIs (o : Outcome (List ℕ)) (p : Result Planned PlanRefusal) : Type 0 where
+  pub outcome : answer_outcome p ≡ o
+  pub levels : levels_said p ≡ length (levels_in o)
+  pub few : levels_said p ≤ 9
+  pub places : places_said p ≡ places_of (levels_in o)
+  pub all : total_said p ≡ sum (levels_in o)

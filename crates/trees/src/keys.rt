@@ -26,32 +26,23 @@ fn high_key(r: Rmap) -> RmapKey
 {
     let more = r.blockcount - 1;
     let start = r.startblock + more;
-    let owner = r.owner;
-    if exempt(r) {
-        return RmapKey {
-            start: start,
-            owner: owner,
-            offset: r.offset,
-        };
-    }
+    let offset = if exempt(r) {
+        r.offset
+    } else {
+        r.offset + more as u64
+    };
     RmapKey {
-        start: start,
-        owner: owner,
-        offset: r.offset + more as u64,
+        start,
+        owner: r.owner,
+        offset,
     }
 }
 
-// Is j below k, by start, owner and file offset?
+// Is j below k, by start, owner and file offset? No `Ord`, and so no `max`: it is not by the flags, so two keys neither of which is below the other may differ.
 fn is_below(j: RmapKey, k: RmapKey) -> bool
     ensures { result ≡ key_below j k }
 {
-    if j.start != k.start {
-        return j.start < k.start;
-    }
-    if j.owner != k.owner {
-        return j.owner < k.owner;
-    }
-    j.offset % OFF_LIMIT < k.offset % OFF_LIMIT
+    (j.start, j.owner, j.offset % OFF_LIMIT) < (k.start, k.owner, k.offset % OFF_LIMIT)
 }
 
 // The greater of two keys, the later of equals.
@@ -67,10 +58,8 @@ fn highest_key(list: &[u8], from: usize, to: usize) -> RmapKey
     ensures { result ≡ highest (records_between rmaps list.now from to) }
 {
     let mut k = high_key(decode(list, from * RMAP_LEN));
-    let mut i = from + 1;
-    while i < to {
+    for i in from + 1..to {
         k = greater_key(k, high_key(decode(list, i * RMAP_LEN)));
-        i += 1;
     }
     k
 }

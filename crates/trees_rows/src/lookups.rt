@@ -1,21 +1,17 @@
 // Lookups in the tree, run: answers and visits; keys that are wrong; lookups refused by each question. A line ends with what became of the stack, and
 // of the places for answers.
-use crate::{damage_in, either, fresh_in, newline, number, plant, usual, wide_in};
+use crate::{fresh_in, plant, usual, wide_in};
 use blocks::geometry::{AgBlock, Geometry};
-use lookup::lookup::{LookedUp, lookup};
-use show::lines::show_told;
-use show::places::{all32, all64};
+use codec::refusal::Told;
+use lookup::lookup::lookup;
+use show::images::damage_in;
+use show::lines::{either, newline, number, show_told};
+use show::places;
 use show::samples::{at_lsn, geometry};
 
-fn show_answer(n: u64) {
-    number(b" ", n);
-}
-
 fn show_answers(answers: &[u64]) {
-    let mut i = 0;
-    while i < answers.len() {
-        show_answer(answers[i]);
-        i += 1;
+    for n in answers {
+        number(b" ", *n);
     }
 }
 
@@ -23,9 +19,13 @@ fn show_found(asked: usize, stack: &[u32], answers: &[u64]) {
     if answers.len() < asked {
         return;
     }
-    either(all32(stack, 0), b" stack zero", b" stack dirty");
     either(
-        all64(&answers[asked..], 0xEE),
+        places::throughout(stack, 0),
+        b" stack zero",
+        b" stack dirty",
+    );
+    either(
+        places::throughout(&answers[asked..], 0xEE),
         b" tail kept:",
         b" tail written:",
     );
@@ -34,10 +34,7 @@ fn show_found(asked: usize, stack: &[u32], answers: &[u64]) {
 
 // Is every place of the stack and of the answers `value`?
 fn throughout(stack: &[u32], answers: &[u64], value: u8) -> bool {
-    if !all32(stack, value as u32) {
-        return false;
-    }
-    all64(answers, value as u64)
+    places::throughout(stack, value as u32) && places::throughout(answers, value as u64)
 }
 
 fn show_state(stack: &[u32], answers: &[u64]) {
@@ -57,15 +54,14 @@ fn lookup_in(
     stack: &mut [u32],
     answers: &mut [u64],
 ) {
-    let answer = lookup(g, image, AgBlock(root), levels, asked, stack, answers);
-    match answer {
-        LookedUp::Found { visits } => {
-            number(b" found visits ", visits as u64);
+    match lookup(g, image, AgBlock(root), levels, asked, stack, answers) {
+        Ok(found) => {
+            number(b" found visits ", found.visits as u64);
             show_found(asked.len(), stack, answers);
         }
-        LookedUp::Refused { refusal, visits } => {
-            show_told(refusal.told());
-            number(b" visits ", visits as u64);
+        Err(stopped) => {
+            show_told(Told::from(stopped.refusal));
+            number(b" visits ", stopped.visits as u64);
             show_state(stack, answers);
         }
     }
@@ -85,10 +81,7 @@ fn lent_row(
 ) {
     let mut stack = [0xEEu32; 20];
     let mut answers = [0xEEu64; 16];
-    if 20 < places {
-        return;
-    }
-    if 16 < room {
+    if 20 < places || 16 < room {
         return;
     }
     io::write_all(1, b"lookup, ");
@@ -168,8 +161,8 @@ fn past_every_number() {
     let mut image = [0xEEu8; 10240];
     let asked = [607u32, 4278190686, 4278190687, 4294967295];
     plant(&mut image);
-    damage_in(&mut image, 13, 464, 0xFF, true);
-    damage_in(&mut image, 13, 468, 0xFF, true);
+    damage_in(&mut image, 512, 13, 464, 0xFF, true);
+    damage_in(&mut image, 512, 13, 468, 0xFF, true);
     lent_row(
         b"a record past every number",
         usual(),
@@ -193,7 +186,7 @@ fn damaged_row(name: &[u8], block: u32, at: usize, value: u8, again: bool, a: u3
     let mut image = [0xEEu8; 10240];
     let asked = [a, b];
     plant(&mut image);
-    damage_in(&mut image, block, at, value, again);
+    damage_in(&mut image, 512, block, at, value, again);
     lent_row(name, usual(), &image, 14, 3, &asked, 18, 16);
 }
 
@@ -272,7 +265,7 @@ fn folded_row(name: &[u8], agblocks: u32, a: u32, b: u32) {
     fresh_in(g, &mut image, 0, 0, 1, 0);
     fresh_in(g, &mut image, 1, 1, 10, 0);
     fresh_in(g, &mut image, 2, 2, 10, 1);
-    damage_in(&mut image, 0, 63, 1, true);
+    damage_in(&mut image, 512, 0, 63, 1, true);
     lent_row(name, g, &image, 2, 3, &asked, 18, 3);
 }
 

@@ -9,52 +9,30 @@ mod lookups;
 
 use blocks::geometry::{AgBlock, Geometry};
 use blocks::kind::TreeKind;
-use check::same;
-use codec::copy::copy;
-use codec::endian::put_be32;
-use codec::rmap::{Rmap, encode};
-use show::lent::{show_blocks, show_scratches, show_state, show_tail, show_tails};
-use show::lines::{show_told, words};
-use show::samples::{at_lsn, damage, fresh, geometry};
-use trees::build::{Built, build};
-use trees::plan::{PlanAnswer, plan};
+use codec::refusal::Told;
+use codec::rmap::{RMAP_LEN, Rmap, encode};
+use show::images::{damage_in, part, put_pointers, store, store_each};
+use show::lent::{Left, show_blocks, show_output, show_tails};
+use show::lines::{either, newline, number, show_told, words};
+use show::samples::{at_lsn, fresh, geometry};
+use trees::build::build;
+use trees::plan::plan;
+use walks::refusal::StoppedWalk;
 use walks::walk::{Linking, Walked, walk_linked};
-
-// A name, and a number in decimal.
-fn number(name: &[u8], n: u64) {
-    io::write_all(1, name);
-    io::print_decimal(1, n);
-}
-
-// The end of a line.
-fn newline() {
-    io::write_all(1, b"\n");
-}
-
-fn either(first: bool, a: &[u8], b: &[u8]) {
-    if first {
-        io::write_all(1, a);
-    } else {
-        io::write_all(1, b);
-    }
-}
 
 fn usual() -> Geometry {
     geometry(5, 512, 1000)
 }
 
 fn plan_row(records: u64) {
-    let p = plan(usual(), TreeKind::Rmap, records);
-    let answer = p.answer;
-    let total = p.total;
     number(b"plan of ", records);
-    match answer {
-        PlanAnswer::Levels(levels) => {
-            number(b" levels ", levels as u64);
-            number(b" blocks ", total);
+    match plan(usual(), TreeKind::Rmap, records) {
+        Ok(p) => {
+            number(b" levels ", p.levels as u64);
+            number(b" blocks ", p.total);
         }
-        PlanAnswer::Refused(r) => {
-            show_told(r.told());
+        Err(r) => {
+            show_told(Told::from(r));
         }
     }
     newline();
@@ -64,38 +42,23 @@ fn plan_row(records: u64) {
 fn record(i: u32) -> Rmap
     requires { i < 200 }
 {
-    let mut count: u32 = 2;
-    if i == 7 {
-        count = 1000;
-    }
-    let mut owner: u64 = 100 + (i as u64);
-    if i == 199 {
-        owner = 0xFFFF_FFFF_FFFF_FFF8;
-    }
     Rmap {
         startblock: 10 + i * 3,
-        blockcount: count,
-        owner,
+        blockcount: if i == 7 { 1000 } else { 2 },
+        owner: if i == 199 {
+            0xFFFF_FFFF_FFFF_FFF8
+        } else {
+            100 + (i as u64)
+        },
         offset: i as u64,
     }
 }
 
-fn put_record(list: &mut [u8], i: u32) {
-    if 200 <= i {
-        return;
-    }
-    let at = (i as usize) * 24;
-    if list.len() < at + 24 {
-        return;
-    }
-    encode(list, at, record(i));
-}
-
 fn fill(list: &mut [u8]) {
-    let mut i: u32 = 0;
-    while i < 200 {
-        put_record(list, i);
-        i += 1;
+    for i in 0..200 {
+        if let Some(bytes) = part(list, RMAP_LEN, i) {
+            encode(bytes, 0, record(i));
+        }
     }
 }
 
@@ -104,62 +67,19 @@ fn numbers() -> [u32; 14] {
     [3u32, 10, 17, 4, 11, 18, 5, 12, 19, 6, 13, 0, 7, 14]
 }
 
-// Block i of some built blocks, stored at a number of the image.
-fn store(from: &[u8], i: u32, image: &mut [u8], block: u32) {
-    let a = (i as usize) * 512;
-    let e = a + 512;
-    let to = (block as usize) * 512;
-    if from.len() < e {
-        return;
-    }
-    if image.len() < to + 512 {
-        return;
-    }
-    copy(&from[a..e], image, to);
-}
-
-fn store_next(from: &[u8], i: u32, at: &[u32], image: &mut [u8]) {
-    let k = i as usize;
-    if k < at.len() {
-        store(from, i, image, at[k]);
-    }
-}
-
-fn place(from: &[u8], at: &[u32], image: &mut [u8]) {
-    let mut i: u32 = 0;
-    while i < 14 {
-        store_next(from, i, at, image);
-        i += 1;
-    }
-}
-
 // The tree, stored in an image.
 fn plant(image: &mut [u8]) {
     let mut list = [0u8; 4800];
     let mut out = [0u8; 7168];
     let at = numbers();
     fill(&mut list);
-    build(usual(), TreeKind::Rmap, &list, &at, &mut out);
-    place(&out, &at, image);
-}
-
-fn show_built(answer: Built, out: &[u8]) {
-    match answer {
-        Built::Done(n) => {
-            number(b" built ", n as u64);
-            show_tail(out, n);
-        }
-        Built::Refused(r) => {
-            show_told(r.told());
-            show_tail(out, 0);
-        }
-    }
-    newline();
+    let _ = build(usual(), TreeKind::Rmap, &list, &at, &mut out);
+    store_each(&out, 512, &at, image);
 }
 
 fn build_in(g: Geometry, list: &[u8], at: &[u32], out: &mut [u8]) {
-    let answer = build(g, TreeKind::Rmap, list, at, out);
-    show_built(answer, out);
+    show_output(b" built ", build(g, TreeKind::Rmap, list, at, out), out);
+    newline();
 }
 
 // A build from so many bytes of the list, with so many block numbers, and so many bytes lent for the blocks.
@@ -168,13 +88,7 @@ fn build_row(name: &[u8], g: Geometry, long: usize, count: usize, room: usize) {
     let mut out = [0xEEu8; 7200];
     let at = numbers();
     fill(&mut list);
-    if 4800 < long {
-        return;
-    }
-    if 14 < count {
-        return;
-    }
-    if 7200 < room {
+    if 4800 < long || 14 < count || 7200 < room {
         return;
     }
     io::write_all(1, name);
@@ -212,48 +126,32 @@ fn root() {
 fn show_records(got: &[u8]) {
     let mut list = [0u8; 4800];
     fill(&mut list);
-    either(same(&list, got), b" same", b" differ");
+    either(list.as_slice() == got, b" same", b" differ");
 }
 
-fn show_read(
-    visits: usize,
-    bytes: usize,
-    stack: &[u32],
-    scratch: &[u64],
-    blocks: &[u32],
-    records: &[u8],
-) {
-    if blocks.len() < visits {
+fn show_read(w: Walked, left: Left) {
+    if left.blocks.len() < w.visits || left.records.len() < w.bytes {
         return;
     }
-    if records.len() < bytes {
-        return;
-    }
-    show_records(&records[0..bytes]);
-    show_scratches(stack, scratch);
-    show_tails(&blocks[visits..], &records[bytes..]);
+    show_records(&left.records[0..w.bytes]);
+    left.show_scratches();
+    show_tails(&left.blocks[w.visits..], &left.records[w.bytes..]);
     io::write_all(1, b"\nblocks");
-    show_blocks(&blocks[0..visits]);
+    show_blocks(&left.blocks[0..w.visits]);
 }
 
-fn show(answer: Linking, stack: &[u32], scratch: &[u64], blocks: &[u32], list: &[u8]) {
-    let walked = answer.walked;
-    let linked = answer.linked;
-    match walked {
-        Walked::Read {
-            visits,
-            records,
-            bytes,
-        } => {
-            number(b" read visits ", visits as u64);
-            number(b" records ", records as u64);
+fn show(answer: Result<Linking, StoppedWalk>, left: Left) {
+    match answer {
+        Ok(Linking { walked, linked }) => {
+            number(b" read visits ", walked.visits as u64);
+            number(b" records ", walked.records as u64);
             either(linked, b" linked", b" not linked");
-            show_read(visits, bytes, stack, scratch, blocks, list);
+            show_read(walked, left);
         }
-        Walked::Refused { refusal, visits } => {
-            show_told(refusal.told());
+        Err(StoppedWalk { refusal, visits }) => {
+            show_told(Told::from(refusal));
             number(b" visits ", visits as u64);
-            show_state(stack, scratch, blocks, list);
+            left.show_state();
         }
     }
     newline();
@@ -280,7 +178,15 @@ fn walk_in(
         blocks,
         records,
     );
-    show(answer, stack, scratch, blocks, records);
+    show(
+        answer,
+        Left {
+            stack,
+            scratch,
+            blocks,
+            records,
+        },
+    );
 }
 
 // The places and bytes that a walk is lent, out of 80, 120, 120 and 5000.
@@ -310,20 +216,7 @@ fn walk_row(name: &[u8], g: Geometry, image: &[u8], root: u32, levels: u32, l: L
     let mut scratch = [0xEEu64; 120];
     let mut blocks = [0xEEu32; 120];
     let mut records = [0xEEu8; 5000];
-    let s = l.stack;
-    let c = l.scratch;
-    let b = l.blocks;
-    let r = l.records;
-    if 80 < s {
-        return;
-    }
-    if 120 < c {
-        return;
-    }
-    if 120 < b {
-        return;
-    }
-    if 5000 < r {
+    if 80 < l.stack || 120 < l.scratch || 120 < l.blocks || 5000 < l.records {
         return;
     }
     io::write_all(1, name);
@@ -332,10 +225,10 @@ fn walk_row(name: &[u8], g: Geometry, image: &[u8], root: u32, levels: u32, l: L
         image,
         root,
         levels,
-        &mut stack[0..s],
-        &mut scratch[0..c],
-        &mut blocks[0..b],
-        &mut records[0..r],
+        &mut stack[0..l.stack],
+        &mut scratch[0..l.scratch],
+        &mut blocks[0..l.blocks],
+        &mut records[0..l.records],
     );
 }
 
@@ -349,20 +242,11 @@ fn tree_row(name: &[u8], g: Geometry, long: usize, root: u32, levels: u32, l: Le
     walk_row(name, g, &image[0..long], root, levels, l);
 }
 
-fn damage_in(image: &mut [u8], block: u32, at: usize, value: u8, again: bool) {
-    let a = (block as usize) * 512;
-    let e = a + 512;
-    if image.len() < e {
-        return;
-    }
-    damage(&mut image[a..e], at, value, again);
-}
-
 // A walk of the tree with one byte of a block damaged, the block's check put in again or not.
 fn damaged_row(name: &[u8], block: u32, at: usize, value: u8, again: bool) {
     let mut image = [0xEEu8; 10240];
     plant(&mut image);
-    damage_in(&mut image, block, at, value, again);
+    damage_in(&mut image, 512, block, at, value, again);
     walk_row(name, usual(), &image, 14, 3, plenty());
 }
 
@@ -372,7 +256,7 @@ fn copied_row(name: &[u8], block: u32) {
     let mut other = [0xEEu8; 10240];
     plant(&mut image);
     plant(&mut other);
-    store(&other, 14, &mut image, block);
+    store(&other[14 * 512..15 * 512], &mut image, block);
     walk_row(name, usual(), &image, block, 3, plenty());
 }
 
@@ -383,36 +267,17 @@ fn single_row(name: &[u8]) {
     let mut out = [0u8; 512];
     let at = numbers();
     fill(&mut list);
-    build(usual(), TreeKind::Rmap, &list[0..48], &at[0..1], &mut out);
-    store(&out, 0, &mut image, 3);
+    let _ = build(usual(), TreeKind::Rmap, &list[0..48], &at[0..1], &mut out);
+    store(&out, &mut image, 3);
     walk_row(name, usual(), &image, 3, 1, plenty());
 }
 
-fn put_pointer(b: &mut [u8], i: u32, block: u32) {
-    let at = 456 + (i as usize) * 4;
-    if b.len() < at + 4 {
-        return;
-    }
-    put_be32(b, at, block);
-}
-
-// Ten times the same pointer.
-fn put_ten(b: &mut [u8], block: u32) {
-    let mut i: u32 = 0;
-    while i < 10 {
-        put_pointer(b, i, block);
-        i += 1;
-    }
-}
-
+// A block of an image, with ten times the same pointer.
 fn fresh_in(g: Geometry, image: &mut [u8], block: u32, level: u16, numrecs: u16, pointer: u32) {
-    let a = (block as usize) * 512;
-    let e = a + 512;
-    if image.len() < e {
-        return;
+    if let Some(b) = part(image, 512, block) {
+        put_pointers(b, 456, &[pointer; 10]);
+        fresh(g, TreeKind::Rmap, block, level, numrecs, b);
     }
-    put_ten(&mut image[a..e], pointer);
-    fresh(g, TreeKind::Rmap, block, level, numrecs, &mut image[a..e]);
 }
 
 // A walk of 1 + 10 + 100 visits over three blocks: the root points ten times to a node, and that ten times to a leaf of one record.
@@ -426,12 +291,9 @@ fn folded_row(name: &[u8], agblocks: u32) {
 }
 
 fn wide_in(g: Geometry, image: &mut [u8], block: u32, level: u16, numrecs: u16) {
-    let a = (block as usize) * 65536;
-    let e = a + 65536;
-    if image.len() < e {
-        return;
+    if let Some(b) = part(image, 65536, block) {
+        fresh(g, TreeKind::Rmap, block, level, numrecs, b);
     }
-    fresh(g, TreeKind::Rmap, block, level, numrecs, &mut image[a..e]);
 }
 
 // Blocks of 65,536 bytes, a node of which has room for 1,488 children: a root that points twice to a leaf of one record, with so many places of the stack.

@@ -3,14 +3,13 @@
 use Prim.Native.Nat.{ℕ, ◌-◌, ◌≤◌}
 use native.Mathlib.Omega.{arith}
 use mathlib.Core.Path.{◌≡◌, refl, sym, ap, ◌∙◌, subst}
-use mathlib.Core.Bool.{false}
 use mathlib.Core.List.{List, [], ◌∷◌}
 use lib.ListN.{length, take, replicate}
+use Rattle.std.specs.Prelude.{Result, Ok, Err}
 use Rattle.codec.specs.Bytes.{with_bytes}
 use Rattle.codec.specs.Question.{Outcome, done, refused}
 use Rattle.walks.specs.declared.walk.Walked.{Walked}
-use Rattle.walks.specs.declared.walk.Walked.TheVariants.{Read, Refused}
-use Rattle.walks.specs.declared.walk.Linking.{Linking}
+use Rattle.walks.specs.declared.refusal.StoppedWalk.{StoppedWalk}
 use Rattle.walks.specs.declared.refusal.WalkRefusal.{WalkRefusal}
 use Rattle.walks.specs.Memory.{zeros}
 use Rattle.walks.specs.Walk.{Visit, visit_of, Trace, finished, spent, failed, met, run, visits, records, by_level, Shape, look_in}
@@ -26,28 +25,28 @@ use Rattle.walks.proofs.WalkLaws.{finished-is, refused-is}
 passed_is : (w v b : ℕ) (t : Trace) (k : Counts) (p : ℕ) → report_of w v b t ≡ record { outcome = done k; passed = p } → p ≡ v
 unfolding report_of
 passed_is w v b finished k p e = sym (ap (λ (r : Report). r.passed) e)
-passed_is w v b spent k p e = let z : ◌≡◌ {A = ℕ} 0 1 = cc (ap (λ (r : Report). r.outcome) e) in absurd (omega arith)
-passed_is w v b (failed n u) k p e = let z : ◌≡◌ {A = ℕ} 0 1 = cc (ap (λ (r : Report). r.outcome) e) in absurd (omega arith)
+passed_is w v b spent k p e = cc (ap (λ (r : Report). r.outcome) e)
+passed_is w v b (failed n u) k p e = cc (ap (λ (r : Report). r.outcome) e)
 passed_is w v b (met x bytes t) k p e = passed_is w v b t k p e
 
 walk-few : (s : Shape) (image : List ℕ) (root levels limit places room : ℕ) → length (visits (walk_in s image root levels limit places room)) ≤ places
 unfolding walk_in
 walk-few s image root levels limit places room = fit_length places room (run (look_in s image) limit (visit_of root (levels - 1) ∷ []))
 
-pub visits-within : (s : Shape) (image : List ℕ) (root levels limit places room w v n b : ℕ)
-    → walked_report (Read v n b) ≡ report w (done (walk_in s image root levels limit places room)) → v ≤ places
-visits-within s image root levels limit places room w v n b e =
+pub visits-within : (s : Shape) (image : List ℕ) (root levels limit places room w : ℕ) (r : Walked)
+    → walked_report (Ok r) ≡ report w (done (walk_in s image root levels limit places room)) → r.visits ≤ places
+visits-within s image root levels limit places room w r e =
     let t = walk_in s image root levels limit places room in
-    let p : v ≡ length (visits t) = passed_is w (length (visits t)) (length (records t)) t _ v (sym e) in
+    let p : r.visits ≡ length (visits t) = passed_is w (length (visits t)) (length (records t)) t _ r.visits (sym e) in
     omega (arith, walk-few s image root levels limit places room)
 
 module _ (w levels : ℕ) (t : Trace) (stack stack₁ stack' scratch scratch₁ scratch' blocks blocks' out out₁ : List ℕ)
     (ls : length stack₁ ≡ length stack) (lc : length scratch₁ ≡ length scratch) (zs : stack' ≡ zeros stack₁) (zc : scratch' ≡ zeros scratch₁) where
-  pub call-read : (r : Walked) (v n b : ℕ) → r ≡ Read v n b → walked_report (Read v n b) ≡ report w (done t) → Leaves (Read v n b) t scratch₁ out out₁
-      → blocks' ≡ with_bytes blocks 0 (by_level levels (seen_of (take v scratch₁)))
+  pub call-read : (r : Result Walked StoppedWalk) (a : Walked) → r ≡ Ok a → walked_report (Ok a) ≡ report w (done t) → Leaves (Ok a) t scratch₁ out out₁
+      → blocks' ≡ with_bytes blocks 0 (by_level levels (seen_of (take a.visits scratch₁)))
       → WalkIs w levels (done t) r stack stack' scratch scratch' blocks blocks' out out₁
-  call-read r v n b q e f g =
-      subst (λ (x : Walked). WalkIs w levels (done t) x stack stack' scratch scratch' blocks blocks' out out₁) (sym q)
+  call-read r a q e f g =
+      subst (λ (x : Result Walked StoppedWalk). WalkIs w levels (done t) x stack stack' scratch scratch' blocks blocks' out out₁) (sym q)
       (record {
         answer = e;
         stack_is = zs ∙ ap (λ (k : ℕ). replicate k 0) ls;
@@ -59,10 +58,10 @@ module _ (w levels : ℕ) (t : Trace) (stack stack₁ stack' scratch scratch₁ 
         records_are = f.1 ∙ sym (finished-is w (length (visits t)) (length (records t)) t _ _ (with_bytes out 0 (records t)) (zeros out) (sym e));
       })
 
-  pub call-refused : (r : Walked) (f : WalkRefusal) (v : ℕ) (out' : List ℕ) → r ≡ Refused f v → walked_report r ≡ report w (done t) → length out₁ ≡ length out
+  pub call-refused : (r : Result Walked StoppedWalk) (s : StoppedWalk) (out' : List ℕ) → r ≡ Err s → walked_report r ≡ report w (done t) → length out₁ ≡ length out
       → blocks' ≡ zeros blocks → out' ≡ zeros out₁ → WalkIs w levels (done t) r stack stack' scratch scratch' blocks blocks' out out'
-  call-refused r f v out' q e lo zb zo =
-      let u : report w (done t) ≡ record { outcome = refused (walk_number f) (walk_values f); passed = v } = sym e ∙ ap walked_report q in
+  call-refused r s out' q e lo zb zo =
+      let u : report w (done t) ≡ record { outcome = refused (walk_number s.refusal) (walk_values s.refusal); passed = s.visits } = sym e ∙ ap walked_report q in
       record {
         answer = e;
         stack_is = zs ∙ ap (λ (k : ℕ). replicate k 0) ls;
@@ -76,15 +75,12 @@ module _ (w levels : ℕ) (t : Trace) (stack stack₁ stack' scratch scratch₁ 
 
 -- a call that 1, 11 or 12 refuses touches nothing
 pub untouched : (w levels : ℕ) (o : Outcome Trace) (f : WalkRefusal) (stack scratch blocks out : List ℕ) → o ≡ refused (walk_number f) (walk_values f)
-    → WalkIs w levels o (Refused f 0) stack stack scratch scratch blocks blocks out out
+    → WalkIs w levels o (Err (record { refusal = f; visits = 0 })) stack stack scratch scratch blocks blocks out out
 untouched w levels o f stack scratch blocks out e = rw e (record { answer = refl; stack_is = refl; scratch_is = refl; blocks_are = refl; records_are = refl })
 
 -- and says no
-pub untouched-linking : (size w : ℕ) (image : List ℕ) (levels : ℕ) (o : Outcome Trace) (f : WalkRefusal) (r : Linking) (stack scratch blocks out : List ℕ)
-    → o ≡ refused (walk_number f) (walk_values f) → r.walked ≡ Refused f 0 → r.linked ≡ false
-    → LinkingIs size w image levels o r stack stack scratch scratch blocks blocks out out
-untouched-linking size w image levels o f r stack scratch blocks out e is says =
-    record {
-      walks = subst (λ (x : Walked). WalkIs w levels o x stack stack scratch scratch blocks blocks out out) (sym is) (untouched w levels o f stack scratch blocks out e);
-      says = says ∙ sym (ap (says_linked size image levels) e);
-    }
+pub untouched-linking : (size w : ℕ) (image : List ℕ) (levels : ℕ) (o : Outcome Trace) (f : WalkRefusal) (stack scratch blocks out : List ℕ)
+    → o ≡ refused (walk_number f) (walk_values f)
+    → LinkingIs size w image levels o (Err (record { refusal = f; visits = 0 })) stack stack scratch scratch blocks blocks out out
+untouched-linking size w image levels o f stack scratch blocks out e =
+    record { walks = untouched w levels o f stack scratch blocks out e; says = sym (ap (says_linked size image levels) e) }

@@ -74,13 +74,13 @@ module _ (g : Geometry) (kind : TreeKind) (ok : geometry_ok g ≡ true) (image :
             leaf = λ z. under-leaf-is d.numrecs z f;
             node = λ z. under-node-is d.numrecs z f ∙ ap (pointers part (first_pointer s) (level - 1)) n;
           }
-      inner w (refused n x) e f = let z : ◌≡◌ {A = ℕ} 0 1 = cc in absurd (omega arith)
+      inner w (refused n x) e f = cc
 
       outer : (b : Bool) → leb ((block + 1) * g.blocksize) (length image) ≡ b
           → look_of (cond b (map_outcome (under s part level) (numrecs_of (check_block g kind block level part))) (refused 14 none)) ≡ good below bytes
           → Looked s image block level below
       outer true t f = inner (leb-true ((block + 1) * g.blocksize) (length image) t) (check_block g kind block level part) refl f
-      outer false t f = let z : ◌≡◌ {A = ℕ} 0 1 = cc in absurd (omega arith)
+      outer false t f = cc
 
 -- ---- a block that was read has its own pair
 
@@ -240,7 +240,7 @@ module _ (g : Geometry) (kind : TreeKind) (image : List ℕ) (levels : ℕ) wher
       → Wrote (done n) (visit_of block level) l c scratch scratch' out out'
       → Walking (look_in sh image) limit places room w total out₀ scratch' out' n.visits n.bytes (paths (with_pair stack block level) (low_of level)) × Opened sh image (with_pair stack block level) (low_of level) levels
   unfolding step_of
-  walking-turn ok {limit} {places} {room} {w} {total} {out₀} {scratch} {out} stack block level c k o h n scratch' out' v b32 (bad m x) e step wr = let z : ◌≡◌ {A = ℕ} 0 1 = cc in absurd (omega arith)
+  walking-turn ok {limit} {places} {room} {w} {total} {out₀} {scratch} {out} stack block level c k o h n scratch' out' v b32 (bad m x) e step wr = cc
   walking-turn ok {limit} {places} {room} {w} {total} {out₀} {scratch} {out} stack block level c k o h n scratch' out' v b32 (good below bytes) e step wr =
       let lk = looked g kind ok image block level below bytes e in (
         subst (λ (d : List Visit). Walking (look_in sh image) limit places room w total out₀ scratch' out' n.visits n.bytes d)
@@ -255,7 +255,7 @@ module _ (g : Geometry) (kind : TreeKind) (image : List ℕ) (levels : ℕ) wher
       → visits (rest_of (look_in sh image) limit places room c.visits c.bytes (visit_of block level ∷ paths stack (level + 1)))
       ≡ visit_of block level ∷ visits (rest_of (look_in sh image) limit places room n.visits n.bytes (paths (with_pair stack block level) (low_of level)))
   unfolding step_of visits
-  turn-visits ok limit places room stack block level c o h n v (bad m x) e step = let z : ◌≡◌ {A = ℕ} 0 1 = cc in absurd (omega arith)
+  turn-visits ok limit places room stack block level c o h n v (bad m x) e step = cc
   turn-visits ok limit places room stack block level c o h n v (good below bytes) e step =
       let q = step-good places room c below bytes n step in
       let lk = looked g kind ok image block level below bytes e in

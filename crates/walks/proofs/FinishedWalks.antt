@@ -1,7 +1,6 @@
 -- `EveryWalk`: a finished walk is the walk of a tree that stands in the image.
 -- Assumes nothing.
 use Prim.Native.Nat.{ℕ, ◌-◌, max}
-use native.Mathlib.Omega.{arith}
 use mathlib.Core.Path.{◌≡◌, refl, sym, ap, ◌∙◌}
 use mathlib.Core.Bool.{Bool, true, false, cond, ◌&&◌}
 use mathlib.Core.List.{List, [], ◌∷◌, append-nil}
@@ -21,15 +20,15 @@ use Rattle.walks.proofs.ForestLaws.{Finished, forest-of, walk-whole, through-vis
 pub fit-finished : (p r : ℕ) (t : Trace) → ending (fit p r t) ≡ finished → (fit p r t ≡ t) × Finished t
 unfolding fit ending
 fit-finished p r finished e = (refl, tt)
-fit-finished p r spent e = let z : ◌≡◌ {A = ℕ} 0 1 = cc in absurd (omega arith)
-fit-finished p r (failed n x) e = let z : ◌≡◌ {A = ℕ} 0 1 = cc in absurd (omega arith)
+fit-finished p r spent e = cc
+fit-finished p r (failed n x) e = cc
 fit-finished p r (met v b t) e = go (ltb 0 p && leb (length b) r) (fit-finished (p - 1) (r - length b) t) e
   where
     go : (c : Bool) → (ending (fit (p - 1) (r - length b) t) ≡ finished → (fit (p - 1) (r - length b) t ≡ t) × Finished t)
         → ending (cond c (met v b (fit (p - 1) (r - length b) t)) (failed 15 none)) ≡ finished
         → (cond c (met v b (fit (p - 1) (r - length b) t)) (failed 15 none) ≡ met v b t) × Finished t
     go true rec f = (ap (met v b) (rec f).0, (rec f).1)
-    go false rec f = let z : ◌≡◌ {A = ℕ} 0 1 = cc in absurd (omega arith)
+    go false rec f = cc
 
 -- over any way to look at a block
 run-reads : (look : Visit → Look) (limit places room : ℕ) (root : Visit) (t : Trace)
@@ -54,13 +53,13 @@ run-reads look limit places room root t e h =
 counts_end : (w v b : ℕ) (t : Trace) (c : Counts) → (report_of w v b t).outcome ≡ done c → ending t ≡ finished
 unfolding report_of ending
 counts_end w v b finished c e = refl
-counts_end w v b spent c e = let z : ◌≡◌ {A = ℕ} 0 1 = cc in absurd (omega arith)
-counts_end w v b (failed n x) c e = let z : ◌≡◌ {A = ℕ} 0 1 = cc in absurd (omega arith)
+counts_end w v b spent c e = cc
+counts_end w v b (failed n x) c e = cc
 counts_end w v b (met u bytes t) c e = counts_end w v b t c e
 
 counts-finish : (w : ℕ) (c : Counts) (o : Outcome Trace) → (report w o).outcome ≡ done c → (t : Trace) × (o ≡ done t) × (ending t ≡ finished)
 counts-finish w c (done t) e = (t, refl, counts_end w (length (visits t)) (length (records t)) t c e)
-counts-finish w c (refused n x) e = let z : ◌≡◌ {A = ℕ} 0 1 = cc in absurd (omega arith)
+counts-finish w c (refused n x) e = cc
 
 walk-reads : (g : Geometry) (kind : TreeKind) (image : List ℕ) (root levels : ℕ) (m : Lent) (t : Trace) → walk_of g kind image root levels m ≡ done t → ending t ≡ finished
     → ReadTree (look_in (shape_of g kind) image) (visit_of root (levels - 1)) t

@@ -1,7 +1,6 @@
 -- Unless 30 refused it, a walk comes to the same under every higher sequence number.
 -- Assumes nothing.
 use Prim.Native.Nat.{ℕ, zero, suc, ◌+◌, ◌-◌, ◌*◌, ◌≤◌, max}
-use native.Mathlib.Omega.{arith}
 use mathlib.Core.Path.{◌≡◌, refl, sym, ap, ◌∙◌, subst}
 use mathlib.Core.Bool.{Bool, true, false, cond}
 use mathlib.Core.Logic.{◌⊎◌, ⊎_elim, inl, inr}
@@ -68,7 +67,7 @@ known_same t u f h = ⊎_elim (λ e. e) (λ o. absurd (go (ending t) refl o)) (f
 
 -- a walk that came to its end was not refused
 pub finished-known : (t : Trace) → ending t ≡ finished → NoneNewer (done t)
-finished-known t e = λ v h. let z : ◌≡◌ {A = ℕ} 0 1 = cc in absurd (omega arith)
+finished-known t e = λ v h. cc
 
 -- where questions come before it
 pub asked-same : (qs : List Question) (t u : Trace) → Follows Newer t u → NoneNewer (answer qs (done t)) → answer qs (done u) ≡ answer qs (done t)

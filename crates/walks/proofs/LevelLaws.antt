@@ -44,11 +44,13 @@ levels-append level a b = ap (at_level level) (seen-append a b) ∙ level-append
 pub levels-more : (level : ℕ) (s : List ℕ) (i : ℕ) → i < length s → level_in level (take (i + 1) s) ≡ level_in level (take i s) ++ level_in level (get_or s i 0 ∷ [])
 levels-more level s i h = ap (λ (k : ℕ). level_in level (take k s)) (add-one i) ∙ ap (level_in level) (take-suc s i 0 h) ∙ levels-append level (take i s) (get_or s i 0 ∷ [])
 
+pub levels-within : (level : ℕ) (s : List ℕ) (m : ℕ) → length (level_in level (take m s)) ≤ length (level_in level s)
+levels-within level s m =
+    let e = ap (level_in level) (sym (take-append-drop m s)) ∙ levels-append level (take m s) (drop m s) in
+    omega (arith, ap length e ∙ length-append (level_in level (take m s)) (level_in level (drop m s)))
+
 pub levels-mono : (level : ℕ) (s : List ℕ) (m n : ℕ) → m ≤ n → length (level_in level (take m s)) ≤ length (level_in level (take n s))
-levels-mono level s m n h =
-    let e : level_in level (take n s) ≡ level_in level (take m s) ++ level_in level (drop m (take n s)) =
-    ap (level_in level) (sym (take-append-drop m (take n s)) ∙ ap (λ (t : List ℕ). t ++ drop m (take n s)) (take-take m n s h)) ∙ levels-append level (take m s) (drop m (take n s)) in
-    omega (arith, ap length e ∙ length-append (level_in level (take m s)) (level_in level (drop m (take n s))))
+levels-mono level s m n h = let k = levels-within level (take n s) m in rw (take-take m n s h) at k
 
 module _ (level place : ℕ) where
   pub level-this : place / 2 ^ 32 ≡ level → level_in level (place ∷ []) ≡ place % 2 ^ 32 ∷ []

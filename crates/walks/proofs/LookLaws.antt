@@ -155,14 +155,14 @@ module _ (g : Geometry) (kind : TreeKind) (image : List ℕ) (block level : ℕ)
       go : (b : Bool) → leb ((block + 1) * g.blocksize) (length image) ≡ b → cond b (check_block g kind block level part) (refused 14 none) ≡ done h
           → (block * g.blocksize + g.blocksize ≤ length image) × (check_block g kind block level part ≡ done h)
       go true t f = (omega (arith, leb-true ((block + 1) * g.blocksize) (length image) t, next_start (shape_of g kind) image block level), f)
-      go false t f = let z : ◌≡◌ {A = ℕ} 0 1 = cc in absurd (omega arith)
+      go false t f = cc
 
 -- ---- a look finds blocks one level below, at most a node's capacity
 
 pointers-below : (part : List ℕ) (at level n : ℕ) → Below (suc level) (pointers part at level n)
 unfolding pointers
-pointers-below part at level zero = tt
-pointers-below part at level (suc n) = (refl, pointers-below part (at + 4) level n)
+pointers-below b at level zero = tt
+pointers-below b at level (suc n) = (refl, pointers-below b (at + 4) level n)
 
 under-falls : (s : Shape) (part : List ℕ) (level n : ℕ) (below : List Visit) (bytes : List ℕ) → (0 < level → n ≤ per_node s) → under s part level n ≡ good below bytes
     → (length below ≤ per_node s) × Below level below
@@ -189,7 +189,7 @@ look-falls g kind image ok v below bytes h = outer (leb ((v.block + 1) * s.size)
     inner : length part ≡ s.size → (o : Outcome Header) → check_block g kind v.block v.level part ≡ o → look_of (map_outcome (under s part v.level) (numrecs_of o)) ≡ good below bytes
         → (length below ≤ per_node s) × Below v.level below
     inner l (done d) e f = under-falls s part v.level d.numrecs below bytes (node-most g kind ok v.block v.level part d l e) f
-    inner l (refused n x) e f = let z : ◌≡◌ {A = ℕ} 0 1 = cc in absurd (omega arith)
+    inner l (refused n x) e f = cc
 
     outer : (b : Bool) → leb ((v.block + 1) * s.size) (length image) ≡ b
         → look_of (cond b (map_outcome (under s part v.level) (s.check v.block v.level part)) (refused 14 none)) ≡ good below bytes
@@ -197,4 +197,4 @@ look-falls g kind image ok v below bytes h = outer (leb ((v.block + 1) * s.size)
     outer true t f =
         let w : v.block * s.size + s.size ≤ length image = omega (arith, leb-true ((v.block + 1) * s.size) (length image) t, next_start s image v.block v.level) in
         inner (part-long s image v.block v.level w) (check_block g kind v.block v.level part) refl f
-    outer false t f = let z : ◌≡◌ {A = ℕ} 0 1 = cc in absurd (omega arith)
+    outer false t f = cc

@@ -84,7 +84,7 @@ among-append b (x ∷ xs) ys h = go (eqb b x) h (among-append b xs ys)
 -- its level
 level-of : (b n : ℕ) (vs : List Visit) → among b (by_level n vs) ≡ true → (l : ℕ) × (l < n) × (among b (at_level l vs) ≡ true)
 unfolding by_level
-level-of b zero vs h = let z : ◌≡◌ {A = ℕ} 0 1 = cc in absurd (omega arith)
+level-of b zero vs h = cc
 level-of b (suc n) vs h =
     ⊎_elim
     (λ e. let q = level-of b n vs e in (q.0, omega (arith, q.1), q.2))
@@ -99,7 +99,7 @@ record Visited (look : Visit → Look) (b : ℕ) : Type 0 where
 
 visit-of : (look : Visit → Look) (b l : ℕ) (vs : List Visit) → Goods look vs → among b (at_level l vs) ≡ true → Visited look b
 unfolding at_level
-visit-of look b l [] g h = let z : ◌≡◌ {A = ℕ} 0 1 = cc in absurd (omega arith)
+visit-of look b l [] g h = cc
 visit-of look b l (v ∷ vs) g h = go (eqb v.level l) h (visit-of look b l vs g.1)
   where
     go : (t : Bool) → among b (cond t (v.block ∷ at_level l vs) (at_level l vs)) ≡ true → (among b (at_level l vs) ≡ true → Visited look b) → Visited look b
@@ -113,7 +113,7 @@ module _ (left right left' right' : ℕ → ℕ) where
   linked-same : (before : ℕ) (bs : List ℕ) → linked left right before bs ≡ true → linked left' right' before bs ≡ true
       → (b : ℕ) → among b bs ≡ true → (left b ≡ left' b) × (right b ≡ right' b)
   unfolding linked
-  linked-same before [] h k b a = let z : ◌≡◌ {A = ℕ} 0 1 = cc in absurd (omega arith)
+  linked-same before [] h k b a = cc
   linked-same before (x ∷ bs) h k b a =
       let h0 = (and-eq-true_iff (eqb (left x) before) (eqb (right x) (next bs) && linked left right x bs)).0 h in
       let h1 = (and-eq-true_iff (eqb (right x) (next bs)) (linked left right x bs)).0 h0.1 in
@@ -137,8 +137,8 @@ level-linked left right (suc n) l vs h e =
 
 finished-true : (t : Trace) (x : Bool) → if_finished t x false ≡ true → x ≡ true
 finished-true finished x h = h
-finished-true spent x h = let z : ◌≡◌ {A = ℕ} 0 1 = cc in absurd (omega arith)
-finished-true (failed n v) x h = let z : ◌≡◌ {A = ℕ} 0 1 = cc in absurd (omega arith)
+finished-true spent x h = cc
+finished-true (failed n v) x h = cc
 finished-true (met v b t) x h = finished-true t x h
 
 -- ---- what is under a block goes by what stands after its header
@@ -280,8 +280,7 @@ checked g kind image v (below, bytes, e) = go (header_in g kind image v) refl
     go (done h) q = let p = header-good g kind image v.block v.level h q in (p.0, h, p.1)
     go (refused n x) q =
         let f = sym e ∙ look-header g kind image v ∙ ap (λ (o : Outcome Header). look_of (map_outcome (λ h. under (shape_of g kind) (block_in g.blocksize image v.block) v.level h.numrecs) o)) q in
-        let z : ◌≡◌ {A = ℕ} 0 1 = cc in
-        absurd (omega arith)
+        cc
 
 walk-goods : (g : Geometry) (kind : TreeKind) (image : List ℕ) (root levels limit places room : ℕ)
     → Goods (look_in (shape_of g kind) image) (visits (walk_in (shape_of g kind) image root levels limit places room))

@@ -9,6 +9,7 @@ use mathlib.Core.Bool.{Bool, true, false, cond, ◌&&◌}
 use mathlib.Core.List.{List, [], ◌∷◌}
 use lib.Dec.{leb}
 use lib.ListN.{length, replicate}
+use Rattle.std.specs.Prelude.{Result, Err}
 use Rattle.codec.specs.Question.{none, Outcome, refused, answer}
 use Rattle.blocks.specs.declared.geometry.Geometry.{Geometry}
 use Rattle.blocks.specs.declared.kind.TreeKind.{TreeKind}
@@ -24,7 +25,7 @@ use Rattle.walks.specs.WalkCall.{Lent, lent, stack_places, first_questions, walk
 use Rattle.walks.specs.LargerStack.{larger_stack, larger_walk_of, on_stack, EveryStack, Alike, EveryAlike, EveryAccepted}
 use Rattle.walks.specs.WalkAnswer.{WalkIs}
 use Rattle.walks.specs.declared.walk.Walked.{Walked}
-use Rattle.walks.specs.declared.walk.Walked.TheVariants.{Refused}
+use Rattle.walks.specs.declared.refusal.StoppedWalk.{StoppedWalk}
 use Rattle.walks.specs.declared.refusal.WalkRefusal.TheVariants as why
 use Rattle.walks.proofs.LookLaws.{node_some}
 
@@ -37,7 +38,7 @@ pub every-stack : EveryStack
 every-stack g kind image root levels m places p q = larger-same g kind levels m places _ p q
 
 -- two calls that come to the same are alike
-pub alike : (w levels : ℕ) (o o' : Outcome Trace) (r r' : Walked) (pairs pairs' larger larger' scratch scratch₁ scratch₂ blocks blocks₁ blocks₂ out out₁ out₂ : List ℕ) → o ≡ o'
+pub alike : (w levels : ℕ) (o o' : Outcome Trace) (r r' : Result Walked StoppedWalk) (pairs pairs' larger larger' scratch scratch₁ scratch₂ blocks blocks₁ blocks₂ out out₁ out₂ : List ℕ) → o ≡ o'
     → WalkIs w levels o r pairs pairs' scratch scratch₁ blocks blocks₁ out out₁ → WalkIs w levels o' r' larger larger' scratch scratch₂ blocks blocks₂ out out₂
     → Alike r r' scratch₁ scratch₂ blocks₁ blocks₂ out₁ out₂
 alike w levels o o' r r' pairs pairs' larger larger' scratch scratch₁ scratch₂ blocks blocks₁ blocks₂ out out₁ out₂ e p q =
@@ -115,7 +116,7 @@ seventeen-now image root = refl
 -- a call that 12 took before
 larger-before : (image : List ℕ) (root : ℕ) → walk_of wide kind.Refcount image root 9 (stack_of 147330) ≡ larger_walk_of wide kind.Refcount image root 9 (stack_of 147330)
 unfolding tree.header_len geometry.is_version geometry.is_block_size geometry.geometry_ok
-larger-before image root = every-accepted wide kind.Refcount image root 9 (stack_of 147330) (λ e. let z : ◌≡◌ {A = ℕ} 0 1 = cc e in absurd (omega arith))
+larger-before image root = every-accepted wide kind.Refcount image root 9 (stack_of 147330) (λ e. cc e)
 
 -- a root outside an image of no block, at 512 bytes: on 18 places and on the 20 of before both calls are refused by 14 after one visit, and leave zeros
 abbrev narrow : Geometry
@@ -124,10 +125,14 @@ narrow = record { version = 5; blocksize = 512; agblocks = 0; agno = 0; meta_uui
 abbrev filled : List ℕ
 filled = 7 ∷ []
 
-outside-alike : Alike (Refused why.Outside 1) (Refused why.Outside 1) (0 ∷ []) (0 ∷ []) (0 ∷ []) (0 ∷ []) (0 ∷ []) (0 ∷ [])
+-- both are refused by 14 after one visit
+abbrev outside : Result Walked StoppedWalk
+outside = Err (record { refusal = why.Outside; visits = 1 })
+
+outside-alike : Alike outside outside (0 ∷ []) (0 ∷ []) (0 ∷ []) (0 ∷ []) (0 ∷ []) (0 ∷ [])
 unfolding tree.header_len geometry.is_version geometry.is_block_size geometry.geometry_ok walk_in walk.run walk.fit walk.look_in walk.visits walk.records report_of
 outside-alike =
     every-alike narrow kind.Rmap [] 0 1 (replicate 18 7) (replicate 18 0) (replicate 20 7) (replicate 20 0) filled filled filled (omega arith) (omega arith)
-    (Refused why.Outside 1) (Refused why.Outside 1) (0 ∷ []) (0 ∷ []) (0 ∷ []) (0 ∷ []) (0 ∷ []) (0 ∷ [])
+    outside outside (0 ∷ []) (0 ∷ []) (0 ∷ []) (0 ∷ []) (0 ∷ []) (0 ∷ [])
     (record { answer = refl; stack_is = refl; scratch_is = refl; blocks_are = refl; records_are = refl })
     (record { answer = refl; stack_is = refl; scratch_is = refl; blocks_are = refl; records_are = refl })

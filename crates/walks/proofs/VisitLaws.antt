@@ -1,22 +1,30 @@
 -- Laws of one visit: what each way through it comes to.
 -- Assumes nothing.
-use Prim.Native.Nat.{ℕ, ◌+◌, ◌-◌, ◌*◌, ◌^◌, ◌≤◌}
+use Prim.Native.Nat.{ℕ, ◌+◌, ◌-◌, ◌*◌, ◌^◌, ◌≤◌, ◌<◌}
 use native.Mathlib.Nat.{add-sub_cancel_left}
-use native.Mathlib.Omega.{arith}
 use mathlib.Core.Path.{◌≡◌, refl, sym, ap, ap₂, ◌∙◌}
+use mathlib.Core.Bool.{true}
 use mathlib.Core.List.{List, [], ◌∷◌}
-use lib.ListN.{take, drop}
+use lib.ListN.{length, take, drop}
+use Rattle.std.specs.Prelude.{Result, Ok, Err}
 use Rattle.codec.specs.Bytes.{bytes_at}
-use Rattle.codec.specs.Question.{Values, Outcome, refused}
+use Rattle.codec.specs.Question.{Values, Outcome, done, refused}
 use Rattle.codec.proofs.Stores.{bytes_at-is}
+use Rattle.blocks.specs.declared.geometry.Geometry.{Geometry}
+use Rattle.blocks.specs.declared.kind.TreeKind.{TreeKind}
+use Rattle.blocks.specs.declared.check.Header.{Header}
+use Rattle.blocks.specs.Geometry.{geometry_ok}
+use Rattle.blocks.specs.Tree.{header_len, record_len}
+use Rattle.blocks.proofs.Accepted.{Accepted, accepted}
 use Rattle.walks.specs.declared.visit.Count.{Count}
 use Rattle.walks.specs.declared.visit.Step.{Step}
 use Rattle.walks.specs.declared.visit.Siblings.{Siblings}
-use Rattle.walks.specs.declared.visit.Verdict.{Verdict}
-use Rattle.walks.specs.declared.visit.Verdict.TheVariants.{Read, Refused}
+use Rattle.walks.specs.declared.refusal.WalkRefusal.{WalkRefusal}
 use Rattle.walks.specs.Walk.{Visit, visit_of, Look, bad, good, block_in}
 use Rattle.walks.specs.OneVisit.{verdict_outcome, step_outcome, BesideBy, Beside, step_of, onward, Wrote}
-use Rattle.walks.proofs.PathLaws.{field}
+use Rattle.walks.specs.Shapes.{shape_of, header_in}
+use Rattle.walks.proofs.LookLaws.{header-good, part-long, header-body, leaf-inside}
+use Rattle.walks.proofs.PathLaws.{field, small}
 
 -- the part of the image that the code takes is a leaf's records
 pub leaf-part : (image : List ℕ) (block size body header n r w : ℕ) → body ≡ header → r ≡ w → header + n * w ≤ size
@@ -31,9 +39,33 @@ leaf-part image block size body header n r w e f h =
 pub beside-refused : (r : Step) (n : ℕ) (x : Values) (left right : ℕ) → step_outcome r ≡ refused n x → Beside r left right
 beside-refused r n x left right e = go r.verdict r.count r.siblings e
   where
-    go : (v : Verdict) (c : Count) (s : Siblings) → verdict_outcome v c ≡ refused n x → BesideBy v s left right
-    go Read c s f = let z : ◌≡◌ {A = ℕ} 0 1 = cc in absurd (omega arith)
-    go (Refused w) c s f = tt
+    go : (v : Result (Unit {0}) WalkRefusal) (c : Count) (s : Siblings) → verdict_outcome v c ≡ refused n x → BesideBy v s left right
+    go (Ok u) c s f = cc
+    go (Err w) c s f = tt
+
+-- what a look tells that gave a header
+pub record Read (g : Geometry) (kind : TreeKind) (image : List ℕ) (block level : ℕ) (h : Header) : Type 0 where
+  pub found : header_in g kind image (visit_of block level) ≡ done h
+  pub accepts : Accepted g kind level (block_in g.blocksize image block) h
+  pub inside : block * g.blocksize + g.blocksize ≤ length image
+  pub near : block * g.blocksize + g.blocksize ≤ 281474976776192
+  pub body_is : h.body ≡ header_len g.version
+  pub leaf : level ≡ 0 → header_len g.version + h.numrecs * record_len kind ≤ g.blocksize
+
+pub good-read : (g : Geometry) (kind : TreeKind) (image : List ℕ) (block level : ℕ) (h : Header) → geometry_ok g ≡ true → block < 2 ^ 32
+    → header_in g kind image (visit_of block level) ≡ done h → Read g kind image block level h
+good-read g kind image block level h ok b32 e =
+    let part : List ℕ = block_in g.blocksize image block in
+    let k = header-good g kind image block level h e in
+    let long = part-long (shape_of g kind) image block level k.0 in
+    record {
+      found = e;
+      accepts = accepted g kind block level part h k.1;
+      inside = k.0;
+      near = small g kind ok block b32;
+      body_is = header-body g kind ok block level part h long k.1;
+      leaf = leaf-inside g kind ok block level part h long k.1;
+    }
 
 step-node : (places room : ℕ) (c : Count) (below : List Visit) (bytes : List ℕ) → step_of places room c (good [] bytes) ≡ step_of places room c (good below bytes)
 unfolding step_of

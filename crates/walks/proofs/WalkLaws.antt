@@ -44,8 +44,8 @@ module _ (places room : ℕ) (c : Count) (below : List Visit) (bytes : List ℕ)
       go : (x y : Bool) → ltb c.visits places ≡ x → leb (length bytes) (room - c.bytes) ≡ y → cond (x && y) (done (next_of c bytes)) (refused 15 none) ≡ done n
           → (c.visits < places) × (length bytes ≤ room - c.bytes) × (n ≡ next_of c bytes)
       go true true p q e = (ltb-true c.visits places p, leb-true (length bytes) (room - c.bytes) q, cc)
-      go true false p q e = let z : ◌≡◌ {A = ℕ} 0 1 = cc in absurd (omega arith)
-      go false y p q e = let z : ◌≡◌ {A = ℕ} 0 1 = cc in absurd (omega arith)
+      go true false p q e = cc
+      go false y p q e = cc
 
   -- and a refused one
   pub step_cut : (n : ℕ) (x : Values) → step_of places room c (good below bytes) ≡ refused n x
@@ -55,14 +55,14 @@ module _ (places room : ℕ) (c : Count) (below : List Visit) (bytes : List ℕ)
     where
       go : (f g : Bool) → ltb c.visits places ≡ f → leb (length bytes) (room - c.bytes) ≡ g → cond (f && g) (done (next_of c bytes)) (refused 15 none) ≡ refused n x
           → ((ltb 0 (places - c.visits) && leb (length bytes) (room - c.bytes)) ≡ false) × (n ≡ 15) × (x ≡ none)
-      go true true p q e = let z : ◌≡◌ {A = ℕ} 0 1 = cc in absurd (omega arith)
+      go true true p q e = cc
       go true false p q e = (rw (q, and-false (ltb 0 (places - c.visits))), cc, cc)
       go false g p q e = (rw (le-ltb 0 (places - c.visits) (omega (arith, ltb-false c.visits places p))), cc, cc)
 
 -- an accepted visit is one visit more
 pub step_count : (places room : ℕ) (c n : Count) (l : Look) → step_of places room c l ≡ done n → n.visits ≡ c.visits + 1
 unfolding step_of
-step_count places room c n (bad k x) e = let z : ◌≡◌ {A = ℕ} 0 1 = cc in absurd (omega arith)
+step_count places room c n (bad k x) e = cc
 step_count places room c n (good below bytes) e = ap (λ (k : Count). k.visits) (step-good places room c below bytes n e).2
 
 -- ---- the walk of what is still due, after v blocks and b bytes
@@ -147,13 +147,13 @@ end_whole w t =
 pub finished-is : {A : Type 0} (w v b : ℕ) (t : Trace) (k : Counts) (p : ℕ) (x y : A) → report_of w v b t ≡ record { outcome = done k; passed = p } → if_finished t x y ≡ x
 unfolding report_of
 finished-is w v b finished k p x y e = refl
-finished-is w v b spent k p x y e = let z : ◌≡◌ {A = ℕ} 0 1 = cc (ap (λ (r : Report). r.outcome) e) in absurd (omega arith)
-finished-is w v b (failed n u) k p x y e = let z : ◌≡◌ {A = ℕ} 0 1 = cc (ap (λ (r : Report). r.outcome) e) in absurd (omega arith)
+finished-is w v b spent k p x y e = cc (ap (λ (r : Report). r.outcome) e)
+finished-is w v b (failed n u) k p x y e = cc (ap (λ (r : Report). r.outcome) e)
 finished-is w v b (met u bytes t) k p x y e = finished-is w v b t k p x y e
 
 pub refused-is : {A : Type 0} (w v b : ℕ) (t : Trace) (n : ℕ) (u : Values) (p : ℕ) (x y : A) → report_of w v b t ≡ record { outcome = refused n u; passed = p } → if_finished t x y ≡ y
 unfolding report_of
-refused-is w v b finished n u p x y e = let z : ◌≡◌ {A = ℕ} 0 1 = cc (ap (λ (r : Report). r.outcome) e) in absurd (omega arith)
+refused-is w v b finished n u p x y e = cc (ap (λ (r : Report). r.outcome) e)
 refused-is w v b spent n u p x y e = refl
 refused-is w v b (failed m z) n u p x y e = refl
 refused-is w v b (met z bytes t) n u p x y e = refused-is w v b t n u p x y e

@@ -12,6 +12,7 @@ use borrow.Author.Tests.{leb-true}
 use Rattle.codec.specs.Question.{Values, none, Outcome, done, refused, map_outcome}
 use Rattle.codec.proofs.Meaning.{done-means}
 use Rattle.codec.proofs.Parts.{length-bytes_at}
+use Rattle.std.specs.Prelude.{Result, Ok, Err}
 use Rattle.blocks.specs.declared.geometry.Geometry.{Geometry}
 use Rattle.blocks.specs.declared.kind.TreeKind.{TreeKind}
 use Rattle.blocks.specs.declared.check.BlockRefusal.TheVariants.{BadGeometry, Short, NoTree, Uuid, BadField}
@@ -25,10 +26,10 @@ use Rattle.blocks.proofs.Meaning.{refusal_of}
 use Rattle.walks.specs.declared.refusal.WalkRefusal.{WalkRefusal}
 use Rattle.walks.specs.declared.refusal.WalkRefusal.TheVariants as why
 use Rattle.walks.specs.declared.walk.Walked.{Walked}
-use Rattle.walks.specs.declared.walk.Walked.TheVariants.{Read, Refused}
+use Rattle.walks.specs.declared.refusal.StoppedWalk.{StoppedWalk}
 use Rattle.walks.specs.Walk.{Visit, visit_of, Look, bad, good, Trace, finished, spent, failed, met, after, run, fit, visits, records, by_level, per_node, block_in, under, look_of, look_in}
 use Rattle.walks.specs.Shapes.{shape_of, numrecs_of}
-use Rattle.walks.specs.WalkCall.{Counts, Report, Lent, walk_questions, walk_of, walk_in}
+use Rattle.walks.specs.WalkCall.{Report, Lent, walk_questions, walk_of, walk_in}
 use Rattle.walks.specs.WalkAnswer.{walk_number, walk_values, walked_report}
 use Rattle.walks.proofs.LookLaws.{look-falls, part-long, leaf-inside}
 use Rattle.walks.proofs.RunLaws.{visits-all}
@@ -62,22 +63,19 @@ number-back (why.Block (BadField (Records e f))) = refl
 pub refusals-apart : (f h : WalkRefusal) → walk_number f ≡ walk_number h → walk_values f ≡ walk_values h → f ≡ h
 refusals-apart f h e v = sym (number-back f) ∙ ap₂ of_number e v ∙ number-back h
 
-pub walked-apart : (r s : Walked) → walked_report r ≡ walked_report s → r ≡ s
-walked-apart (Read v n b) (Read v' n' b') e =
-    let o = ap (λ (q : Report). q.outcome) e in
-    let k : ◌≡◌ {A = Counts} (record { visits = v; records = n; bytes = b }) (record { visits = v'; records = n'; bytes = b' }) = cc in
-    let x : v ≡ v' = ap (λ (c : Counts). c.visits) k in
-    let y : n ≡ n' = ap (λ (c : Counts). c.records) k in
-    let z : b ≡ b' = ap (λ (c : Counts). c.bytes) k in
-    cc
-walked-apart (Read v n b) (Refused f p) e = let z : ◌≡◌ {A = ℕ} 0 1 = cc (ap (λ (q : Report). q.outcome) e) in absurd (omega arith)
-walked-apart (Refused f p) (Read v n b) e = let z : ◌≡◌ {A = ℕ} 0 1 = cc (ap (λ (q : Report). q.outcome) e) in absurd (omega arith)
-walked-apart (Refused f p) (Refused h q) e =
-    let o = ap (λ (x : Report). x.outcome) e in
-    let m : walk_number f ≡ walk_number h = cc in
-    let n : walk_values f ≡ walk_values h = cc in
-    let k : p ≡ q = ap (λ (x : Report). x.passed) e in
-    ap₂ Refused (refusals-apart f h m n) k
+abbrev of_report : Report → Result Walked StoppedWalk
+of_report q =
+    elim q.outcome [
+      | done c ↦ Ok (record { visits = c.visits; records = c.records; bytes = c.bytes })
+      | refused n v ↦ Err (record { refusal = of_number n v; visits = q.passed })
+    ]
+
+report-back : (r : Result Walked StoppedWalk) → of_report (walked_report r) ≡ r
+report-back (Ok w) = refl
+report-back (Err s) = ap (λ (f : WalkRefusal). Err (record { refusal = f; visits = s.visits })) (number-back s.refusal)
+
+pub walked-apart : (r s : Result Walked StoppedWalk) → walked_report r ≡ walked_report s → r ≡ s
+walked-apart r s e = sym (report-back r) ∙ ap of_report e ∙ report-back s
 
 -- ---- the records of a walk are whole
 
@@ -141,7 +139,7 @@ module _ (g : Geometry) (kind : TreeKind) (image : List ℕ) (ok : geometry_ok g
       inner : length part ≡ g.blocksize → (o : Outcome Header) → check_block g kind v.block v.level part ≡ o → look_of (map_outcome (under (shape_of g kind) part v.level) (numrecs_of o)) ≡ good below bytes
           → (n : ℕ) × (length bytes ≡ n * record_len kind)
       inner l (done d) e f = under_whole v.block v.level part d l e below bytes f
-      inner l (refused n x) e f = let z : ◌≡◌ {A = ℕ} 0 1 = cc in absurd (omega arith)
+      inner l (refused n x) e f = cc
 
       outer : (b : Bool) → leb ((v.block + 1) * g.blocksize) (length image) ≡ b
           → look_of (cond b (map_outcome (under (shape_of g kind) part v.level) (numrecs_of (check_block g kind v.block v.level part))) (refused 14 none)) ≡ good below bytes
@@ -150,7 +148,7 @@ module _ (g : Geometry) (kind : TreeKind) (image : List ℕ) (ok : geometry_ok g
           let m : (v.block + 1) * g.blocksize ≡ v.block * g.blocksize + g.blocksize = add-mul v.block 1 g.blocksize ∙ omega arith in
           let u : v.block * g.blocksize + g.blocksize ≤ length image = omega (arith, leb-true ((v.block + 1) * g.blocksize) (length image) t) in
           inner (part-long (shape_of g kind) image v.block v.level u) (check_block g kind v.block v.level part) refl f
-      outer false t f = let z : ◌≡◌ {A = ℕ} 0 1 = cc in absurd (omega arith)
+      outer false t f = cc
 
 -- ---- an accepted call
 

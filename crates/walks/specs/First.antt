@@ -1,11 +1,10 @@
 -- What the questions before the first visit come to, and what holds once they are asked.
 -- Assumes nothing.
-use Rattle.std.specs.Prelude.{ℕ, ◌≤◌, ◌≡◌, Bool, true}
+use Rattle.std.specs.Prelude.{ℕ, ◌≤◌, ◌≡◌, Bool, true, Result, Ok, Err}
 use Rattle.codec.specs.Question.{Outcome, refused, answer}
 use Rattle.blocks.specs.declared.geometry.Geometry.{Geometry}
 use Rattle.blocks.specs.Geometry.{geometry_ok}
-use Rattle.walks.specs.declared.first.First.{First}
-use Rattle.walks.specs.declared.first.First.TheVariants as first
+use Rattle.walks.specs.declared.refusal.WalkRefusal.{WalkRefusal}
 use Rattle.walks.specs.Walk.{Trace}
 use Rattle.walks.specs.WalkCall.{stack_places, walk_questions}
 use Rattle.walks.specs.WalkAnswer.{walk_number, walk_values}
@@ -25,9 +24,9 @@ pub record ReadyIs (g : Geometry) (levels stack scratch blocks : ℕ) : Type 0 w
   pub begun : Begun (geometry_ok g) levels stack scratch blocks
 
 -- or one of them refuses, whatever follows
-abbrev pub FirstIs : Geometry → (levels stack scratch blocks : ℕ) → First → Type 0
-FirstIs g levels stack scratch blocks (first.Refused r) =
+abbrev pub FirstIs : Geometry → (levels stack scratch blocks : ℕ) → Result (Unit {0}) WalkRefusal → Type 0
+FirstIs g levels stack scratch blocks (Err r) =
     (bytes : ℕ) (o : Outcome Trace)
     → answer (walk_questions g levels (record { stack = stack; scratch = scratch; blocks = blocks; bytes = bytes })) o
     ≡ refused (walk_number r) (walk_values r)
-FirstIs g levels stack scratch blocks first.Ready = ReadyIs g levels stack scratch blocks
+FirstIs g levels stack scratch blocks (Ok u) = ReadyIs g levels stack scratch blocks

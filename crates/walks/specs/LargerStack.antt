@@ -1,7 +1,7 @@
 -- Nine pairs in the place of a larger stack: a walk comes to what it came to. The statements are `EveryStack`, `EveryAlike` and `EveryAccepted`;
 -- proofs/StackSizes.antt proves them, with walks that meet their premises.
 -- Assumes nothing.
-use Rattle.std.specs.Prelude.{ℕ, ◌*◌, ◌≤◌, ◌≡◌, List, length}
+use Rattle.std.specs.Prelude.{ℕ, ◌*◌, ◌≤◌, ◌≡◌, List, length, Result}
 use Rattle.codec.specs.Question.{none, Outcome, refused}
 use Rattle.blocks.specs.declared.geometry.Geometry.{Geometry}
 use Rattle.blocks.specs.declared.kind.TreeKind.{TreeKind}
@@ -10,6 +10,7 @@ use Rattle.walks.specs.Walk.{Trace, per_node}
 use Rattle.walks.specs.Shapes.{shape_of}
 use Rattle.walks.specs.WalkCall.{Lent, lent, stack_places, walk_with, walk_of}
 use Rattle.walks.specs.declared.walk.Walked.{Walked}
+use Rattle.walks.specs.declared.refusal.StoppedWalk.{StoppedWalk}
 use Rattle.walks.specs.WalkAnswer.{walked_report, WalkIs}
 
 -- the larger stack, which 12 asked for before: a block and its level for each child of a full node on each level
@@ -33,7 +34,7 @@ EveryStack =
     → walk_of g kind image root levels m ≡ larger_walk_of g kind image root levels (on_stack places m)
 
 -- two calls answered the same, counts or refusal and visits, and left the same in the level scratch, the block list and the record list
-pub record Alike (r r' : Walked) (scratch scratch' blocks blocks' out out' : List ℕ) : Type 0 where
+pub record Alike (r r' : Result Walked StoppedWalk) (scratch scratch' blocks blocks' out out' : List ℕ) : Type 0 where
   pub answers : walked_report r ≡ walked_report r'
   pub scratches : scratch ≡ scratch'
   pub block_lists : blocks ≡ blocks'
@@ -44,7 +45,7 @@ abbrev pub EveryAlike : Type 0
 EveryAlike =
     (g : Geometry) (kind : TreeKind) (image : List ℕ) (root levels : ℕ) (pairs pairs' larger larger' scratch blocks out : List ℕ)
     → stack_places ≤ length pairs → larger_stack g kind levels ≤ length larger
-    → (r r' : Walked) (scratch₁ scratch₂ blocks₁ blocks₂ out₁ out₂ : List ℕ)
+    → (r r' : Result Walked StoppedWalk) (scratch₁ scratch₂ blocks₁ blocks₂ out₁ out₂ : List ℕ)
     → WalkIs (record_len kind) levels (walk_of g kind image root levels (lent pairs scratch blocks out)) r
     pairs pairs' scratch scratch₁ blocks blocks₁ out out₁
     → WalkIs (record_len kind) levels (larger_walk_of g kind image root levels (lent larger scratch blocks out)) r'

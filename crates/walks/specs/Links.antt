@@ -1,7 +1,7 @@
 -- Neighbours on a level: is every level of a walked tree linked? What a call of the link check comes to and leaves; and the claim that one wrong link is told,
 -- `OneLinkWrong`, which proofs/OneLink.antt proves and crates/trees/proofs/SmallTree.antt has an instance of.
 -- Assumes nothing.
-use Rattle.std.specs.Prelude.{ℕ, zero, suc, ◌*◌, ◌^◌, ◌<◌, ◌≡◌, Bool, true, false, ◌&&◌, List, [], ◌∷◌, eqb}
+use Rattle.std.specs.Prelude.{ℕ, zero, suc, ◌*◌, ◌^◌, ◌<◌, ◌≡◌, Bool, true, false, ◌&&◌, List, [], ◌∷◌, eqb, Result, Ok, Err}
 use Rattle.codec.specs.Bytes.{IsBytes, with_bytes}
 use Rattle.codec.specs.Question.{Outcome, done, refused}
 use Rattle.blocks.specs.declared.geometry.Geometry.{Geometry}
@@ -12,7 +12,9 @@ use Rattle.blocks.specs.Stamp.{relinked}
 use Rattle.walks.specs.Walk.{Visit, Trace, visits, at_level, by_level, block_in}
 use Rattle.walks.specs.WalkCall.{if_finished, Lent, walk_of}
 use Rattle.walks.specs.WalkAnswer.{WalkIs}
+use Rattle.walks.specs.declared.walk.Walked.{Walked}
 use Rattle.walks.specs.declared.walk.Linking.{Linking}
+use Rattle.walks.specs.declared.refusal.StoppedWalk.{StoppedWalk}
 
 -- the first of the blocks that come next on a level; all ones where there is none
 abbrev pub next : List ℕ → ℕ
@@ -41,11 +43,20 @@ abbrev pub says_linked : ℕ → List ℕ → ℕ → Outcome Trace → Bool
 says_linked size image levels (done t) = if_finished t (levels_linked (leftsib_of size image) (rightsib_of size image) levels (visits t)) false
 says_linked size image levels (refused n x) = false
 
+-- a call's walk, its counts or its refusal; and the yes or no: no, where it was refused
+abbrev pub walked_of : Result Linking StoppedWalk → Result Walked StoppedWalk
+walked_of (Ok l) = Ok l.walked
+walked_of (Err s) = Err s
+
+abbrev pub says_yes : Result Linking StoppedWalk → Bool
+says_yes (Ok l) = l.linked
+says_yes (Err s) = false
+
 -- a call of the link check, where the walk comes to o: the walk's answer and what it leaves, and the yes or no
-pub record LinkingIs (size w : ℕ) (image : List ℕ) (levels : ℕ) (o : Outcome Trace) (r : Linking)
+pub record LinkingIs (size w : ℕ) (image : List ℕ) (levels : ℕ) (o : Outcome Trace) (r : Result Linking StoppedWalk)
     (stack stack' scratch scratch' blocks blocks' out out' : List ℕ) : Type 0 where
-  pub walks : WalkIs w levels o r.walked stack stack' scratch scratch' blocks blocks' out out'
-  pub says : r.linked ≡ says_linked size image levels o
+  pub walks : WalkIs w levels o (walked_of r) stack stack' scratch scratch' blocks blocks' out out'
+  pub says : says_yes r ≡ says_linked size image levels o
 
 -- ---- the claim
 

@@ -1,13 +1,12 @@
 -- One visit of a walk: where it is noted, what it comes to, and what it leaves in the level scratch and the record list.
 -- Assumes nothing.
-use Rattle.std.specs.Prelude.{ℕ, ◌+◌, ◌-◌, ◌*◌, ◌/◌, ◌%◌, ◌^◌, ◌≤◌, ◌≡◌, List, [], ◌∷◌, ◌&&◌, length, ltb, leb}
+use Rattle.std.specs.Prelude.{ℕ, ◌+◌, ◌-◌, ◌*◌, ◌/◌, ◌%◌, ◌^◌, ◌≤◌, ◌≡◌, List, [], ◌∷◌, ◌&&◌, length, ltb, leb, Result, Ok, Err}
 use Rattle.codec.specs.Bytes.{with_bytes}
 use Rattle.codec.specs.Question.{Outcome, done, refused, ask, answer}
 use Rattle.walks.specs.declared.visit.Count.{Count}
 use Rattle.walks.specs.declared.visit.Siblings.{Siblings}
 use Rattle.walks.specs.declared.visit.Step.{Step}
-use Rattle.walks.specs.declared.visit.Verdict.{Verdict}
-use Rattle.walks.specs.declared.visit.Verdict.TheVariants.{Read, Refused}
+use Rattle.walks.specs.declared.refusal.WalkRefusal.{WalkRefusal}
 use Rattle.walks.specs.Walk.{Visit, visit_of, Look, bad, good, bytes_found}
 use Rattle.walks.specs.WalkAnswer.{walk_number, walk_values}
 
@@ -30,17 +29,17 @@ abbrev pub next_of : Count → List ℕ → Count
 next_of c bytes = record { visits = c.visits + 1; bytes = c.bytes + length bytes }
 
 -- what became of a block: the counts after it, or its refusal
-abbrev pub verdict_outcome : Verdict → Count → Outcome Count
-verdict_outcome Read c = done c
-verdict_outcome (Refused r) c = refused (walk_number r) (walk_values r)
+abbrev pub verdict_outcome : Result (Unit {0}) WalkRefusal → Count → Outcome Count
+verdict_outcome (Ok u) c = done c
+verdict_outcome (Err r) c = refused (walk_number r) (walk_values r)
 
 abbrev pub step_outcome : Step → Outcome Count
 step_outcome s = verdict_outcome s.verdict s.count
 
 -- the siblings that a visit hands back, where the block was read
-abbrev pub BesideBy : Verdict → Siblings → ℕ → ℕ → Type 0
-BesideBy Read s left right = (s.left ≡ left) × (s.right ≡ right)
-BesideBy (Refused r) s left right = Unit {0}
+abbrev pub BesideBy : Result (Unit {0}) WalkRefusal → Siblings → ℕ → ℕ → Type 0
+BesideBy (Ok u) s left right = (s.left ≡ left) × (s.right ≡ right)
+BesideBy (Err r) s left right = Unit {0}
 
 abbrev pub Beside : Step → ℕ → ℕ → Type 0
 Beside s left right = BesideBy s.verdict s.siblings left right

@@ -1,11 +1,10 @@
 -- Nine pairs: for each level a block and its next child. What is due is each pair's later children, the lowest level first.
 -- Assumes nothing.
-use Rattle.std.specs.Prelude.{ℕ, zero, suc, ◌+◌, ◌-◌, ◌*◌, ◌^◌, ◌≤◌, ◌<◌, ◌≡◌, Bool, true, cond, List, [], ◌∷◌, ◌++◌, eqb, length, get_or, set}
+use Rattle.std.specs.Prelude.{ℕ, zero, suc, ◌+◌, ◌-◌, ◌*◌, ◌^◌, ◌≤◌, ◌<◌, ◌≡◌, Bool, true, cond, List, [], ◌∷◌, ◌++◌, eqb, length, get_or, set, Option, Some, None}
 use Rattle.codec.specs.Bytes.{bytes_at, be_of}
 use Rattle.blocks.specs.Offsets.{numrecs_at}
 use Rattle.blocks.specs.Tree.{ptr_len}
-use Rattle.walks.specs.declared.path.Next.{Next}
-use Rattle.walks.specs.declared.path.Next.TheVariants.{Block, Nothing}
+use Rattle.walks.specs.declared.path.Due.{Due}
 use Rattle.walks.specs.Walk.{Visit, visit_of, Shape, per_node, block_in, first_pointer}
 use Rattle.walks.specs.WalkCall.{stack_places}
 
@@ -81,6 +80,6 @@ pub record Moved (s : Shape) (image : List ℕ) (block level low levels : ℕ) (
   pub stored : p' ≡ set p ((level + 1) * 2 + 1) (get_or p ((level + 1) * 2 + 1) 0 + 1)
 
 -- or there is none
-abbrev pub Advanced : Shape → List ℕ → Next → ℕ → ℕ → List ℕ → List ℕ → Type 0
-Advanced s image (Block b l) low levels p p' = Moved s image b l low levels p p'
-Advanced s image Nothing low levels p p' = NoneLeft s.size image p low levels × (p' ≡ p)
+abbrev pub Advanced : Shape → List ℕ → Option Due → ℕ → ℕ → List ℕ → List ℕ → Type 0
+Advanced s image (Some d) low levels p p' = Moved s image d.block d.level low levels p p'
+Advanced s image None low levels p p' = NoneLeft s.size image p low levels × (p' ≡ p)

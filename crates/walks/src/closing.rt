@@ -4,24 +4,21 @@ ghost use Rattle.codec.specs.Bytes.{with_bytes};
 ghost use Rattle.blocks.specs.Tree.{record_len};
 ghost use Rattle.walks.specs.Memory.{zeros};
 ghost use Rattle.walks.specs.Walk.{by_level};
-ghost use Rattle.walks.specs.declared.walk.Walked.TheVariants.{Read};
 ghost use Rattle.walks.specs.OneVisit.{seen_of};
 
 use crate::by_level::order;
-use crate::memory::{zero8, zero32, zero64};
 use crate::visit::Count;
 use crate::walk::Walked;
 use blocks::kind::TreeKind;
 
 // A walk that has read its last block.
 pub fn read_all(kind: TreeKind, c: Count) -> Walked
-    ensures { result ≡ Read c.visits (c.bytes / record_len kind) c.bytes }
+    ensures { result ≡ record { visits = c.visits; records = c.bytes / record_len kind; bytes = c.bytes } }
 {
-    let bytes = c.bytes;
-    Walked::Read {
+    Walked {
         visits: c.visits,
-        records: bytes / kind.record_len(),
-        bytes,
+        records: c.bytes / kind.record_len(),
+        bytes: c.bytes,
     }
 }
 
@@ -31,8 +28,8 @@ pub fn finish(visits: usize, levels: u64, scratch: &mut [u64], blocks: &mut [u32
     ensures { (blocks.new ≡ with_bytes blocks.old 0 (by_level levels (seen_of (take visits scratch.old))))
         × (scratch.new ≡ zeros scratch.old) }
 {
-    order(scratch, visits, levels, blocks);
-    zero64(scratch);
+    order(&scratch[..visits], levels, blocks);
+    scratch.fill(0); // no visit is left in it
 }
 
 // After a refused walk: zeros throughout.
@@ -40,7 +37,7 @@ pub fn wipe(scratch: &mut [u64], blocks: &mut [u32], out: &mut [u8])
     ensures { (scratch.new ≡ zeros scratch.old) × (blocks.new ≡ zeros blocks.old)
         × (out.new ≡ zeros out.old) }
 {
-    zero64(scratch);
-    zero32(blocks);
-    zero8(out);
+    scratch.fill(0);
+    blocks.fill(0);
+    out.fill(0);
 }

@@ -1,5 +1,5 @@
-// Trees of a group read: lent memory, what is asked first, the look at a block, the visit, the blocks that are due, the links of a level, the walk, and how it
-// closes.
+// Trees of a group read: the image that a tree is read in, what is asked first, the look at a block, the visit, the blocks that are due, the links of a level,
+// the walk, and how it closes.
 #![tactic(auto)]
 
 mod by_level;
@@ -7,8 +7,8 @@ pub mod closing;
 pub mod first;
 mod links;
 pub mod look;
-pub mod memory;
 pub mod path;
 pub mod refusal;
+pub mod tree;
 pub mod visit;
 pub mod walk;

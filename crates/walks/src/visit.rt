@@ -1,49 +1,66 @@
 // A visit: a block that is due is looked at, noted and, if it is a leaf, copied.
-ghost use Rattle.std.specs.Prelude.{◌≡◌, true, ◌∷◌, [], ◌≤◌, length};
-ghost use Rattle.codec.specs.Question.{map_outcome};
-ghost use Rattle.blocks.specs.Geometry.{geometry_ok};
+ghost use Rattle.std.specs.Prelude.{◌≡◌, ◌∷◌, [], ◌≤◌, length};
 ghost use Rattle.walks.specs.Walk.{visit_of, good, look_in};
 ghost use Rattle.walks.specs.Shapes.{shape_of};
-ghost use Rattle.walks.specs.WalkAnswer.{looked_outcome};
 ghost use Rattle.walks.specs.Links.{leftsib_of, rightsib_of};
 ghost use Rattle.walks.specs.OneVisit.{step_outcome, Beside, step_of, onward, Fitting, Wrote};
 
 use crate::by_level::LEVEL_STEP;
-use crate::look::{Looked, look};
+use crate::look::look;
 use crate::refusal::WalkRefusal;
+use crate::tree::TreeImage;
 use blocks::check::Header;
-use blocks::geometry::{AgBlock, Geometry, NULL_AGBLOCK};
-use blocks::kind::TreeKind;
+use blocks::geometry::{AgBlock, NULL_AGBLOCK};
 use codec::copy::copy;
 
 // The blocks read and the record bytes stored so far.
-#[derive(Clone, Copy)]
+#[derive(Clone, Copy, Debug, PartialEq, Eq)]
 pub struct Count {
     pub visits: usize,
     pub bytes: usize,
 }
 
 // The blocks that a block names before and after it on its level.
-#[derive(Clone, Copy)]
+#[derive(Clone, Copy, Debug, PartialEq, Eq)]
 pub struct Siblings {
     pub left: u32,
     pub right: u32,
 }
 
-// What became of a block that was due: it was read, or its refusal ends the walk.
-#[derive(Clone, Copy)]
-pub enum Verdict {
-    Read,
-    Refused(WalkRefusal),
-}
-
-// A visit: what became of the block and, where it was read, the counts after it and its siblings. These stand beside the verdict: with them inside it walks
-// took longer (docs/PERFORMANCE.md).
-#[derive(Clone, Copy)]
+// A visit: whether the block was read or its refusal ends the walk and, where it was read, the counts after it and its siblings. These stand beside the
+// verdict: with them inside it walks took longer (docs/PERFORMANCE.md).
+#[derive(Clone, Copy, Debug, PartialEq, Eq)]
 pub struct Step {
     pub count: Count,
     pub siblings: Siblings,
-    pub verdict: Verdict,
+    pub verdict: Result<(), WalkRefusal>,
+}
+
+// The siblings that a checked header names.
+impl From<Header> for Siblings {
+    ghost from_gives = { λ h s. (s.left ≡ h.leftsib.0) × (s.right ≡ h.rightsib.0) };
+
+    fn from(h: Header) -> Siblings {
+        Siblings {
+            left: h.leftsib.0,
+            right: h.rightsib.0,
+        }
+    }
+}
+
+// A visit that is refused: the walk ends, with the counts as they are.
+fn stop(refusal: WalkRefusal, c: Count) -> Step
+    ensures { result.verdict ≡ Err refusal }
+{
+    let siblings = Siblings {
+        left: NULL_AGBLOCK,
+        right: NULL_AGBLOCK,
+    };
+    Step {
+        count: c,
+        siblings,
+        verdict: Err(refusal),
+    }
 }
 
 // A block that passed the check: 15, then its visit is noted in one place of the level scratch and its records, if it is a leaf, go to the record list.
@@ -65,19 +82,8 @@ fn enter(
     let visits = c.visits;
     let at = c.bytes;
     let len = bytes.len();
-    if places <= visits {
-        return Step {
-            count: c,
-            siblings,
-            verdict: Verdict::Refused(WalkRefusal::Full),
-        };
-    }
-    if out.len() - at < len {
-        return Step {
-            count: c,
-            siblings,
-            verdict: Verdict::Refused(WalkRefusal::Full),
-        };
+    if places <= visits || out.len() - at < len {
+        return stop(WalkRefusal::Full, c);
     }
     copy(bytes, out, at);
     scratch[visits] = place;
@@ -88,76 +94,46 @@ fn enter(
     Step {
         count,
         siblings,
-        verdict: Verdict::Read,
+        verdict: Ok(()),
     }
 }
 
-// The siblings that a checked header names.
-fn siblings_of(header: Header) -> Siblings
-    ensures { (result.left ≡ header.leftsib.0) × (result.right ≡ header.rightsib.0) }
-{
-    Siblings {
-        left: header.leftsib.0,
-        right: header.rightsib.0,
-    }
-}
-
-// The look's answer as a visit has it: its refusal, unchanged, which ends the walk; a good block leaves the counts as they are.
-fn stop(answer: Looked, c: Count) -> Step
-    ensures { step_outcome result ≡ map_outcome (λ h. c) (looked_outcome answer) }
-{
-    match answer {
-        Looked::Refused(refusal) => {
-            let siblings = Siblings {
-                left: NULL_AGBLOCK,
-                right: NULL_AGBLOCK,
-            };
-            Step {
-                count: c,
+impl<'a> TreeImage<'a> {
+    // Reads a block that is due: 14, then 3 to 8, 30, 9 and 10, then 15. A node has no records: it hands an empty part of the image on.
+    pub fn visit(
+        &self,
+        block: u32,
+        level: u16,
+        scratch: &mut [u64],
+        out: &mut [u8],
+        places: usize,
+        c: Count,
+    ) -> Step
+        requires { Fitting scratch.old out.old places c }
+        ensures result_value { step_outcome result ≡ step_of places (length out.old) c (look_in (shape_of self.now.g self.now.kind) self.now.image.now (visit_of block level)) }
+        ensures wrote { Wrote (step_outcome result) (visit_of block level) (look_in (shape_of self.now.g self.now.kind) self.now.image.now (visit_of block level)) c
+            scratch.old scratch.new out.old out.new }
+        ensures beside { Beside result (leftsib_of self.now.g.blocksize self.now.image.now block) (rightsib_of self.now.g.blocksize self.now.image.now block) }
+    {
+        let header = match look(self.g, self.kind, self.image, AgBlock(block), level) {
+            Err(refusal) => return stop(refusal, c),
+            Ok(header) => header,
+        };
+        let siblings = Siblings::from(header);
+        let place = (level as u64) * LEVEL_STEP + (block as u64);
+        if level == 0 {
+            let from = (block as usize) * (self.g.blocksize as usize) + header.body;
+            let to = from + (header.numrecs as usize) * self.kind.record_len();
+            return enter(
+                &self.image[from..to],
+                place,
                 siblings,
-                verdict: Verdict::Refused(refusal),
-            }
+                scratch,
+                out,
+                places,
+                c,
+            );
         }
-        Looked::Good(header) => {
-            let siblings = siblings_of(header);
-            Step {
-                count: c,
-                siblings,
-                verdict: Verdict::Read,
-            }
-        }
+        enter(&self.image[0..0], place, siblings, scratch, out, places, c)
     }
-}
-
-// Reads a block that is due: 14, then 3 to 8, 30, 9 and 10, then 15. A node has no records: it hands an empty part of the image on.
-pub fn visit(
-    g: Geometry,
-    kind: TreeKind,
-    image: &[u8],
-    block: u32,
-    level: u16,
-    scratch: &mut [u64],
-    out: &mut [u8],
-    places: usize,
-    c: Count,
-) -> Step
-    requires g_value { geometry_ok g ≡ true }
-    requires fitting { Fitting scratch.old out.old places c }
-    ensures result_value { step_outcome result ≡ step_of places (length out.old) c (look_in (shape_of g kind) image.now (visit_of block level)) }
-    ensures wrote { Wrote (step_outcome result) (visit_of block level) (look_in (shape_of g kind) image.now (visit_of block level)) c
-        scratch.old scratch.new out.old out.new }
-    ensures beside { Beside result (leftsib_of g.blocksize image.now block) (rightsib_of g.blocksize image.now block) }
-{
-    let answer = look(g, kind, image, AgBlock(block), level);
-    let Looked::Good(header) = answer else {
-        return stop(answer, c);
-    };
-    let siblings = siblings_of(header);
-    let place = (level as u64) * LEVEL_STEP + (block as u64);
-    if level == 0 {
-        let from = (block as usize) * (g.blocksize as usize) + header.body;
-        let to = from + (header.numrecs as usize) * kind.record_len();
-        return enter(&image[from..to], place, siblings, scratch, out, places, c);
-    }
-    enter(&image[0..0], place, siblings, scratch, out, places, c)
 }

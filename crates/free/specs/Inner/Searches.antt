@@ -1,10 +1,14 @@
 -- What the searches of an extent in an accepted list by block promise.
 -- Assumes nothing.
-use Rattle.std.specs.Prelude.{ℕ, ◌≤◌, ◌<◌, Bool, true, ◌&&◌, List, [], ◌∷◌, ltb, length, get_or}
+use Rattle.std.specs.Prelude.{ℕ, ◌≤◌, ◌<◌, Bool, true, ◌&&◌, List, [], ◌∷◌, ltb, length, get_or, map}
+use Rattle.codec.specs.Records.{free_extents}
 use Rattle.codec.specs.declared.free_extent.FreeExtent.{FreeExtent}
-use Rattle.free.specs.declared.same.Span.{Span}
 use Rattle.free.specs.Free.{least}
 use Rattle.free.specs.Same.{alike, occurs}
+
+-- the extents that chunks of a list hold
+abbrev pub extents_in : List (List ℕ) → List FreeExtent
+extents_in chunks = map free_extents.decode chunks
 
 -- the start of the i-th extent
 abbrev pub start_of : List FreeExtent → ℕ → ℕ
@@ -16,11 +20,11 @@ pub record StartBefore (l : List FreeExtent) (start r : ℕ) : Type 0 where
   pub below : (i : ℕ) → i < r → start_of l i < start
 
 -- those before `low` do, those from `high` on do not
-pub record SpanIs (l : List FreeExtent) (start : ℕ) (s : Span) : Type 0 where
-  pub below : StartBefore l start s.low
-  pub wide : s.low ≤ s.high
-  pub within : s.high ≤ length l
-  pub from : (i : ℕ) → s.high ≤ i → i < length l → start ≤ start_of l i
+pub record RangeIs (l : List FreeExtent) (start low high : ℕ) : Type 0 where
+  pub below : StartBefore l start low
+  pub wide : low ≤ high
+  pub within : high ≤ length l
+  pub from : (i : ℕ) → high ≤ i → i < length l → start ≤ start_of l i
 
 -- the first r do, and no other does
 pub record PlaceIs (l : List FreeExtent) (start r : ℕ) : Type 0 where

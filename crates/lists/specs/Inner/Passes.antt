@@ -1,15 +1,16 @@
 -- A release or a raise goes along the counts twice: a first pass decides and adds up the lengths, a second one writes. What the inner functions
 -- of both passes promise one another.
 -- Assumes nothing.
-use Rattle.std.specs.Prelude.{ℕ, ◌+◌, ◌-◌, ◌*◌, ◌^◌, ◌≤◌, ◌<◌, min, max, ◌≡◌, Bool, true, false, not, cond, ◌&&◌, List, [], ◌∷◌, ◌++◌, ltb, leb, eqb, length}
+use Rattle.std.specs.Prelude.{ℕ, ◌+◌, ◌-◌, ◌*◌, ◌^◌, ◌≤◌, ◌<◌, min, max, ◌≡◌, Bool, true, false, not, cond, ◌&&◌, List, [], ◌∷◌, ◌++◌, ltb, leb, eqb, length, Result}
 use Rattle.codec.specs.Accepted.{end_limit}
 use Rattle.codec.specs.Bytes.{with_bytes}
 use Rattle.codec.specs.Question.{Outcome, done, ask, answer}
-use Rattle.codec.specs.Records.{bytes_of, refcounts, free_extents}
+use Rattle.codec.specs.Records.{records_of, bytes_of, refcounts, free_extents}
 use Rattle.codec.specs.Refcounts.{max_refcount, cow_flag, staging, block, end, least, accepted}
 use Rattle.codec.specs.declared.refcount.Refcount.{Refcount}
 use Rattle.codec.specs.declared.free_extent.FreeExtent.{FreeExtent}
-use Rattle.lists.specs.declared.Released.{Released}
+use Rattle.lists.specs.declared.EditRefusal.{EditRefusal}
+use Rattle.lists.specs.declared.Lengths.{Lengths}
 use Rattle.lists.specs.declared.carried.Change.{Change}
 use Rattle.lists.specs.declared.carried.Change.TheVariants.{Lower, Raise}
 use Rattle.lists.specs.declared.carried.Pass.{Pass}
@@ -18,7 +19,7 @@ use Rattle.lists.specs.declared.carried.Joiner.{Joiner}
 use Rattle.lists.specs.declared.carried.Carried.{Carried}
 use Rattle.lists.specs.Release.{clear, stop, fewer, share, cut_by, join_from, join_all, release, unshared}
 use Rattle.lists.specs.Raise.{raise, full, owners_fit}
-use Rattle.lists.specs.Edits.{Freed}
+use Rattle.lists.specs.Edits.{extent_questions, Freed}
 use Rattle.lists.specs.Answer.{released_outcome, lengths_of}
 
 -- is one owner more asked for?
@@ -181,7 +182,15 @@ pub record Passable (up : Bool) (l : List Refcount) (start count : ℕ) (write l
   pub free : list ≡ true → length (bytes_of free_extents (unshared l start count)) ≤ free_room
 
 -- the answer r, and both buffers where they are written
-pub record PassIs (up write list : Bool) (l : List Refcount) (start count : ℕ) (r : Released) (new new' free free' : List ℕ) : Type 0 where
+pub record PassIs (up write list : Bool) (l : List Refcount) (start count : ℕ) (r : Result Lengths EditRefusal) (new new' free free' : List ℕ) : Type 0 where
   pub said : released_outcome r ≡ lengths_of (pass_outcome up l start count)
   pub counts : write ≡ true → new' ≡ with_bytes new 0 (bytes_of refcounts (counts_after up start (start + count) l))
   pub extents : list ≡ true → free' ≡ with_bytes free 0 (bytes_of free_extents (unshared l start count))
+
+-- ---- the first step of a release or a raise: 19, 21, 22, 25, 28
+
+unfoldable pub measured_outcome : Bool → List ℕ → ℕ → ℕ → Outcome Freed
+measured_outcome up c start count =
+    let l : List Refcount = records_of refcounts c in
+    answer (extent_questions c start count ++ (ask 28 (fit_if up start (start + count) l) ∷ []))
+    (done (record { counts = counts_after up start (start + count) l; free = unshared l start count }))

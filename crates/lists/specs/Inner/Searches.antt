@@ -1,16 +1,15 @@
 -- What an edit of a reverse map searches for: which records pass each search, and what one pass over the list finds.
 -- Assumes nothing.
-use Rattle.std.specs.Prelude.{ℕ, ◌%◌, ◌≡◌, Bool, true, false, ◌&&◌, List, ◌++◌, leb, length}
+use Rattle.std.specs.Prelude.{ℕ, ◌%◌, ◌≡◌, Bool, true, false, ◌&&◌, List, ◌++◌, leb, length, Option, Some, None, Result, Ok, Err}
 use Rattle.codec.specs.Question.{Outcome, refused, Question, answer}
 use Rattle.codec.specs.Records.{records_of, rmaps}
 use Rattle.codec.specs.Rmaps.{end, good, follows, accepted}
 use Rattle.codec.specs.declared.rmap.Rmap.{Rmap}
+use Rattle.lists.specs.declared.EditRefusal.{EditRefusal}
 use Rattle.lists.specs.declared.splice.Edit.{Edit}
 use Rattle.lists.specs.declared.splice.Edit.TheVariants.{Insert, InsertShared, Remove}
 use Rattle.lists.specs.declared.findings.Hits.{Hits}
 use Rattle.lists.specs.declared.findings.Scan.{Scan}
-use Rattle.lists.specs.declared.findings.Asked.{Asked}
-use Rattle.lists.specs.declared.findings.Asked.TheVariants as asked
 use Rattle.lists.specs.RmapEdits.{index_where, note_of, overlaps, clash, continues, contains, lines_up}
 use Rattle.lists.specs.Edits.{map_questions}
 use Rattle.lists.specs.Answer.{edit_number, edit_values}
@@ -31,7 +30,6 @@ touches x r = leb x.startblock (end r) && leb r.startblock (end x)
 
 -- k is what was found in s, and in the record i, which passes h
 pub record Noted (h : Hits) (i n : ℕ) (s k : Scan) : Type 0 where
-  pub ordered : k.ordered ≡ s.ordered
   pub conflict : k.conflict ≡ note_of s.conflict n i h.conflict
   pub before : k.before ≡ note_of s.before n i h.before
   pub after : k.after ≡ note_of s.after n i h.after
@@ -46,9 +44,10 @@ pub record Finds (e : Edit) (x : Rmap) (l : List Rmap) (s : Scan) : Type 0 where
   pub aligned : s.aligned ≡ index_where (λ r. (tests e x r).aligned) l
   pub containing : s.containing ≡ index_where (λ r. (tests e x r).containing) l
 
-pub record ScanIs (e : Edit) (x : Rmap) (l : List Rmap) (s : Scan) : Type 0 where
-  pub ordered : s.ordered ≡ accepted l
-  pub finds : accepted l ≡ true → Finds e x l s
+-- nothing is found in a list that is not in order
+abbrev pub ScanIs : Edit → Rmap → List Rmap → Option Scan → Type 0
+ScanIs e x l None = accepted l ≡ false
+ScanIs e x l (Some s) = (accepted l ≡ true) × Finds e x l s
 
 -- 19, 20 and 22 hold
 pub record TakeGood (b : List ℕ) (x : Rmap) : Type 0 where
@@ -57,6 +56,6 @@ pub record TakeGood (b : List ℕ) (x : Rmap) : Type 0 where
   pub extent : good x ≡ true
 
 -- a refusal is that of any questions that begin with those on the list and on the extent
-abbrev pub AskedIs : Edit → List ℕ → Rmap → Asked → Type 0
-AskedIs e b x (asked.Refused q) = (qs : List Question) (o : Outcome (List Rmap)) → answer (map_questions b x ++ qs) o ≡ refused (edit_number q) (edit_values q)
-AskedIs e b x (asked.Found s) = TakeGood b x × Finds e x (records_of rmaps b) s
+abbrev pub AskedIs : Edit → List ℕ → Rmap → Result Scan EditRefusal → Type 0
+AskedIs e b x (Err q) = (qs : List Question) (o : Outcome (List Rmap)) → answer (map_questions b x ++ qs) o ≡ refused (edit_number q) (edit_values q)
+AskedIs e b x (Ok s) = TakeGood b x × Finds e x (records_of rmaps b) s

@@ -1,6 +1,6 @@
 -- The splice of an edit: joins tried, records written one after another, and the question of room.
 -- Assumes nothing.
-use Rattle.std.specs.Prelude.{ℕ, zero, suc, ◌+◌, ◌≡◌, Bool, true, false, cond, ◌&&◌, List, [], ◌∷◌, ltb, length, get_or}
+use Rattle.std.specs.Prelude.{ℕ, zero, suc, ◌+◌, ◌≡◌, Bool, cond, ◌&&◌, List, [], ◌∷◌, ltb, length, get_or, Option, Some, None}
 use Rattle.codec.specs.Bytes.{with_bytes}
 use Rattle.codec.specs.Question.{Outcome, done, refused, ask, answer}
 use Rattle.codec.specs.Records.{bytes_of, rmaps}
@@ -8,22 +8,27 @@ use Rattle.codec.specs.Rmaps.{least}
 use Rattle.codec.specs.declared.rmap.Rmap.{Rmap}
 use Rattle.lists.specs.declared.splice.Edit.{Edit}
 use Rattle.lists.specs.declared.splice.Edit.TheVariants.{Insert, InsertShared, Remove}
-use Rattle.lists.specs.declared.findings.Joined.{Joined}
+use Rattle.lists.specs.declared.splice.Part.{Part}
+use Rattle.lists.specs.declared.splice.Splice.{Splice}
 use Rattle.lists.specs.RmapEdits.{continues, joined}
 use Rattle.lists.specs.Edits.{fits, insert_outcome, insert_shared_outcome, remove_outcome}
+use Rattle.lists.specs.Splice.{parts_of, list_of, SpliceGood}
 
 -- x joined to the record i where one continues the other: behind it, or before it
-unfoldable pub join_at : Bool → List Rmap → ℕ → Rmap → Joined
+unfoldable pub join_at : Bool → List Rmap → ℕ → Rmap → Option Rmap
 join_at behind l i x =
     let r : Rmap = get_or l i least in
-    cond (ltb i (length l) && continues (cond behind r x) (cond behind x r))
-    (record { rmap = joined (cond behind r x) (cond behind x r); joins = true })
-    (record { rmap = x; joins = false })
+    cond (ltb i (length l) && continues (cond behind r x) (cond behind x r)) (Some (joined (cond behind r x) (cond behind x r))) None
 
 -- the index before a place, the length where there is none
 unfoldable pub previous : ℕ → ℕ → ℕ
 previous zero n = n
 previous (suc k) n = k
+
+-- s is the splice of these parts of the list l, with its size
+pub record SpliceIs (l : List Rmap) (a : ℕ) (p q : Part) (z : ℕ) (s : Splice) : Type 0 where
+  pub list : list_of l s ≡ parts_of l a p q z
+  pub good : SpliceGood l s
 
 -- records written at a place, and the place after them
 pub record Wrote (old new : List ℕ) (at : ℕ) (rs : List Rmap) (after : ℕ) : Type 0 where

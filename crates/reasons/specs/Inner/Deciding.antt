@@ -1,6 +1,6 @@
 -- What the steps of an explanation promise one another.
 -- Assumes nothing.
-use Rattle.std.specs.Prelude.{ℕ, Bool, cond, List, [], ◌∷◌}
+use Rattle.std.specs.Prelude.{◌∷◌, ℕ, Bool, cond, List, []}
 use Rattle.codec.specs.Question.{none, Outcome, done, refused, ask, answer}
 use Rattle.codec.specs.declared.rmap.Rmap.{Rmap}
 use Rattle.codec.specs.declared.refcount.Refcount.{Refcount}

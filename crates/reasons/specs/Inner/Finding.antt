@@ -1,7 +1,7 @@
 -- What one pass over the reverse map promises: the record that a letting go cuts, and the first two records over a block.
 -- Assumes nothing.
-use Rattle.std.specs.Prelude.{◌≡◌, ℕ, ◌≤◌, Bool, true, cond, ◌&&◌, List, nat_lt}
-use Rattle.codec.specs.Question.{Outcome, done, refused, answer}
+use Rattle.std.specs.Prelude.{◌≡◌, ◌≤◌, ◌&&◌, ℕ, Bool, true, false, cond, List, nat_lt, Option, Some, None}
+use Rattle.codec.specs.Question.{Outcome, done, answer}
 use Rattle.codec.specs.Records.{records_of, rmaps}
 use Rattle.codec.specs.Rmaps.{accepted}
 use Rattle.codec.specs.declared.rmap.Rmap.{Rmap}
@@ -9,10 +9,7 @@ use Rattle.lists.specs.declared.splice.Edit.TheVariants.{Remove}
 use Rattle.lists.specs.Extent.{over}
 use Rattle.lists.specs.RmapEdits.{index_where, note_of, contains, lines_up, cut_at}
 use Rattle.lists.specs.Edits.{edit_questions}
-use Rattle.lists.specs.Answer.{edit_number, edit_values}
 use Rattle.reasons.specs.declared.scan.Found.{Found}
-use Rattle.reasons.specs.declared.scan.Other.{Other}
-use Rattle.reasons.specs.declared.scan.Other.TheVariants as other
 use Rattle.reasons.specs.Why.{map_over, index_but}
 
 -- ---- the tests
@@ -36,7 +33,6 @@ Within n s = (s.aligned ≤ n) × (s.containing ≤ n) × (s.first ≤ n) × (s.
 
 -- k is what was found in s, and in the record i, which is r
 pub record Noted (x : Rmap) (b : ℕ) (r : Rmap) (i n : ℕ) (s k : Found) : Type 0 where
-  pub ordered : k.ordered ≡ s.ordered
   pub aligned : k.aligned ≡ note_of s.aligned n i (over_aligned x b r)
   pub containing : k.containing ≡ note_of s.containing n i (over_contains x b r)
   pub first : k.first ≡ note_of s.first n i (map_over b r)
@@ -48,9 +44,10 @@ pub record Finds (x : Rmap) (b : ℕ) (l : List Rmap) (s : Found) : Type 0 where
   pub first : s.first ≡ index_where (map_over b) l
   pub second : s.second ≡ second_over b l
 
-pub record FoundIs (x : Rmap) (b : ℕ) (l : List Rmap) (s : Found) : Type 0 where
-  pub ordered : s.ordered ≡ accepted l
-  pub finds : accepted l ≡ true → Finds x b l s
+-- nothing is found in a list that is not in order
+abbrev pub FoundIs : Rmap → ℕ → List Rmap → Option Found → Type 0
+FoundIs x b l None = accepted l ≡ false
+FoundIs x b l (Some s) = (accepted l ≡ true) × Finds x b l s
 
 -- ---- the other record
 
@@ -63,7 +60,3 @@ unfoldable pub other_before26 : List ℕ → Rmap → ℕ → Outcome ℕ
 other_before26 map x b =
     let m : List Rmap = records_of rmaps map in
     answer (edit_questions Remove map x) (done (index_but (map_over (probe x b)) (cut_at x m) m))
-
-abbrev pub other_outcome : Other → Outcome ℕ
-other_outcome (other.Refused q) = refused (edit_number q) (edit_values q)
-other_outcome (other.At i) = done i

@@ -28,7 +28,6 @@ pub record Given (g : Geometry) (kind : TreeKind) (list : List ℕ) : Type 0 whe
 pub record Under (kind : TreeKind) (list : List ℕ) (from to : ℕ) : Type 0 where
   pub some : from < to
   pub inside : to ≤ length list / record_len kind
-  pub keyed : Keyed kind list
 
 -- a plan up to a level, where no block of the level is without records
 pub record Planned (records : ℕ) (levels : List ℕ) (level : ℕ) : Type 0 where
@@ -54,20 +53,17 @@ level_children kind list levels level s ns =
 
 -- the leaves: as many as the list needs, and an output as long as they
 pub record Leaves (g : Geometry) (kind : TreeKind) (list blocks out : List ℕ) : Type 0 where
-  pub given : Given g kind list
   pub some : 0 < length blocks
   pub room : length list / record_len kind ≤ length blocks * per_leaf (shape_of g kind)
   pub long : length blocks * g.blocksize ≤ length out
 
--- some children of a level, whose keys can be worked out
+-- some children of a level
 pub record Children (kind : TreeKind) (list levels : List ℕ) (level child : ℕ) (below : List ℕ) : Type 0 where
-  pub keyed : Keyed kind list
   pub planned : Planned (length list / record_len kind) levels level
   pub last : child + length below ≤ get_or levels level 0
 
 -- a node over them, in a block as long as a block
 pub record Node (g : Geometry) (kind : TreeKind) (list levels : List ℕ) (level child : ℕ) (below b : List ℕ) : Type 0 where
-  pub given : Given g kind list
   pub children : Children kind list levels level child below
   pub most : length below ≤ per_node (shape_of g kind)
   pub shallow : level < 9
@@ -75,7 +71,6 @@ pub record Node (g : Geometry) (kind : TreeKind) (list levels : List ℕ) (level
 
 -- the nodes above a level: as many as its children need, and an output as long as they
 pub record Nodes (g : Geometry) (kind : TreeKind) (list levels : List ℕ) (level : ℕ) (below blocks out : List ℕ) : Type 0 where
-  pub given : Given g kind list
   pub planned : Planned (length list / record_len kind) levels level
   pub all : length below ≡ get_or levels level 0
   pub some : 0 < length blocks
@@ -94,17 +89,12 @@ levels_above g kind list levels numbers =
     let k : ℕ = get_or levels 0 0 in
     build_above (layout_of g kind) 1 (drop 1 levels) (drop k numbers) (level_children kind list levels 0 0 (take k numbers))
 
--- a tree: its plan has up to 9 levels (16), there are as many numbers as it has blocks (17), and the output is as long as they (18)
-pub record Tree (g : Geometry) (kind : TreeKind) (list levels numbers out : List ℕ) : Type 0 where
-  pub given : Given g kind list
+-- a plan of the list, of up to 9 levels (16)
+pub record Laid (g : Geometry) (kind : TreeKind) (list levels : List ℕ) : Type 0 where
   pub plan : levels ≡ plan_of (shape_of g kind) list
   pub few : length levels ≤ 9
+
+-- a tree: there are as many numbers as its plan has blocks (17), and the output is as long as they (18)
+pub record Tree (g : Geometry) (levels numbers out : List ℕ) : Type 0 where
   pub blocks : length numbers ≡ sum levels
   pub long : length numbers * g.blocksize ≤ length out
-
--- the places of a plan that passed 16, and its blocks in all
-pub record PlanGiven (g : Geometry) (kind : TreeKind) (list levels : List ℕ) (total : ℕ) : Type 0 where
-  pub given : Given g kind list
-  pub plan : levels ≡ plan_of (shape_of g kind) list
-  pub few : length levels ≤ 9
-  pub all : total ≡ sum levels

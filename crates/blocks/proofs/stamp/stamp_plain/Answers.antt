@@ -13,9 +13,9 @@ unfolding be_bytes
 returns c =
     let a = c.args in
     let b = a.b.now in
-    let m = be_bytes 4 c.magic-magic.result in
+    let m = be_bytes 4 c.magic.result in
     let l = be_bytes 2 a.level in
     let n = be_bytes 2 a.numrecs in
     let two = with_bytes-two b magic_at m l _ _ level_at c.put_be32.ensures c.put_be16.ensures refl (omega arith) in
     let three = with_bytes-two b magic_at (m ++ l) n _ _ numrecs_at two c.put_be16-2.ensures refl (omega arith) in
-    rw (← c.magic-magic.ensures) (with_bytes-two b magic_at (m ++ l ++ n) (siblings a.left.0 a.right.0) _ _ left_sibling_at three c.stamp_siblings.ensures refl (omega arith))
+    rw (← c.magic.ensures) (with_bytes-two b magic_at (m ++ l ++ n) (siblings a.left.0 a.right.0) _ _ left_sibling_at three c.stamp_siblings.ensures refl (omega arith))

@@ -1,20 +1,30 @@
--- `codec::crc::crc_bytes` meets its contract: the whole words, and the bytes after them.
-use mathlib.Core.Path.{ap, ap₂, ◌∙◌}
+-- `codec::crc::crc_bytes` meets its contract. The invariant: the register and the bytes to come make what the whole makes.
+use mathlib.Core.Path.{◌≡◌, ap, ◌∙◌}
 use mathlib.Core.List.{List}
-use Prim.Native.Nat.{ℕ, ◌*◌, ◌/◌}
-use native.Mathlib.Nat.{le_of_eq}
-use lib.ListN.{length, take, drop, length-drop, take-append-drop}
-use lib.Seq.{take_all}
+use Prim.Native.Nat.{ℕ, ◌+◌, ◌*◌, ◌/◌}
+use native.Mathlib.Omega.{arith}
+use lib.ListN.{length, drop}
+use Rattle.codec.specs.Bytes.{bytes_at}
 use Rattle.codec.specs.Crc.{crc_bytes}
+use Rattle.codec.proofs.Chunks.{chunk-at, chunk-next}
 use Rattle.codec.proofs.Division.{crc_bytes-append}
 use Rattle.codec.proofs.crc.crc_bytes.Goals as goal
 
+pub loop-word-preserved : goal.loop-word-preserved
+loop-word-preserved c =
+    let l = c.loop-word in
+    let s : List ℕ = c.args.s.now in
+    let i : ℕ = l.word-index in
+    let rest : List ℕ = drop ((i + 1) * 4) s in
+    let word = chunk-at 4 s c.as_chunks.ensures.front i (omega (arith, c.as_chunks.ensures.front_len)) in
+    ap (λ (r : ℕ). crc_bytes r rest) (c.crc_word-r.ensures ∙ ap (crc_bytes l.r) word)
+    ∙ crc_bytes-append l.r (bytes_at s (i * 4) 4) rest
+    ∙ ap (crc_bytes l.r) (chunk-next 4 i s)
+    ∙ l.invariant
+
 pub returns : goal.returns
 returns c =
-    let a = c.args in
-    let s : List ℕ = a.s.now in
-    let k : ℕ = length s / 4 * 4 in
-    c.crc_singly.ensures
-    ∙ ap₂ crc_bytes c.crc_words-r.ensures (take_all _ (drop k s) (le_of_eq (length-drop k s)))
-    ∙ crc_bytes-append a.crc (take k s) (drop k s)
-    ∙ ap (crc_bytes a.crc) (take-append-drop k s)
+    let l = c.loop-word in
+    let s : List ℕ = c.args.s.now in
+    let all : length s / 4 ≡ l.word-index = omega (arith, c.as_chunks.ensures.front_len) in
+    c.crc_singly.ensures ∙ ap (crc_bytes l.r) (c.as_chunks.ensures.back ∙ ap (λ (n : ℕ). drop (n * 4) s) all) ∙ l.invariant

@@ -1,6 +1,6 @@
 -- `codec::crc::crc_singly` meets its contract. The invariant: the register and the bytes to come make what the whole makes.
 use Prim.Native.Nat.{ℕ, ◌+◌, ◌≤◌, ◌<◌}
-use mathlib.Core.Path.{◌≡◌, refl, sym, ◌∙◌}
+use mathlib.Core.Path.{◌≡◌, sym, ◌∙◌}
 use mathlib.Core.List.{List}
 use native.Mathlib.Omega.{arith}
 use native.Mathlib.Numerals.{add-one}
@@ -19,16 +19,8 @@ done : (s : List ℕ) (r i : ℕ) → length s ≤ i → crc_bytes r (drop i s) 
 unfolding crc_bytes
 done s r i h = rw (drop_of_length-le s)
 
-pub loop-i-init : goal.loop-i-init
-loop-i-init c = (omega arith, refl)
-
-pub crc_byte-r-requires : goal.crc_byte-r-requires
-crc_byte-r-requires c = c.requires
-
-pub loop-i-preserved : goal.loop-i-preserved
-loop-i-preserved c =
-    let l = c.loop-i in
-    (omega arith, turn _ l.r _ l.i c.loop-i-test.true c.crc_byte-r.ensures ∙ l.invariant.1)
+pub loop-b-preserved : goal.loop-b-preserved
+loop-b-preserved c = let l = c.loop-b in turn _ l.r _ l.b-index (omega arith) c.crc_byte-r.ensures ∙ l.invariant
 
 pub returns : goal.returns
-returns c = let l = c.loop-i in sym (done _ l.r l.i c.loop-i-test.false) ∙ l.invariant.1
+returns c = let l = c.loop-b in sym (done _ l.r l.b-index (omega arith)) ∙ l.invariant

@@ -1,24 +1,18 @@
 -- `codec::crc::crc_word` meets its contract: the shares of the four bytes make what the bytes make singly.
-use mathlib.Core.Path.{◌∙◌}
-use mathlib.Core.List.{List}
-use Prim.Native.Nat.{ℕ}
-use native.Mathlib.Omega.{arith}
-use lib.Bits.{xor_lt}
+use borrow.Author.Rules.{rules}
+use mathlib.Core.Path.{sym, ap, ◌∙◌}
+use Rattle.std.proofs.lemmas.Nat.{le_bytes_4}
+use Rattle.codec.specs.declared.crc.TheConstants.{TABLES}
+use Rattle.codec.specs.Crc.{crc_bytes}
+use Rattle.codec.proofs.CrcTables.{IsTables-TABLES}
+use Rattle.codec.proofs.NumberBytes.{low_first-4}
 use Rattle.codec.proofs.Words.{word-shares, word-step}
 use Rattle.codec.proofs.crc.crc_word.Goals as goal
-
-pub overflow_cast-fourth : goal.overflow_cast-fourth
-overflow_cast-fourth c = omega (arith, xor_lt 32 c.args.crc c.args.word c.ranges.crc.fits c.ranges.word.fits)
-
-pub offset_bounds-entries-fourth : goal.offset_bounds-entries-fourth
-offset_bounds-entries-fourth c = omega (arith, xor_lt 32 c.args.crc c.args.word c.ranges.crc.fits c.ranges.word.fits)
-
-pub bounds-entries-fourth : goal.bounds-entries-fourth
-bounds-entries-fourth c = omega (arith, xor_lt 32 c.args.crc c.args.word c.ranges.crc.fits c.ranges.word.fits)
 
 pub returns : goal.returns
 returns c =
     let a = c.args in
-    let t : List ℕ = a.entries.now in
-    word-shares t a.crc a.word c.ranges.crc.fits c.ranges.word.fits
-    ∙ word-step t c.requires a.crc a.word c.ranges.crc.fits c.ranges.word.fits
+    let w = c.from_le_bytes.result in
+    word-shares TABLES a.crc w c.ranges.crc.fits c.from_le_bytes.type_inv
+    ∙ word-step TABLES IsTables-TABLES a.crc w c.ranges.crc.fits c.from_le_bytes.type_inv
+    ∙ ap (crc_bytes a.crc) (sym (low_first-4 w) ∙ le_bytes_4 a.word.now w (search rules) (search rules) c.from_le_bytes.ensures)

@@ -1,25 +1,8 @@
--- `codec::endian::be16` meets its contract: the law of two parts, at two bytes.
-use Prim.Native.Nat.{◌+◌}
-use native.Mathlib.Omega.{arith}
-use Rattle.codec.proofs.Fields.{be-read, be-read-byte}
+-- `codec::endian::be16` meets its contract.
+use Rattle.codec.proofs.NumberBytes.{read-2}
 use Rattle.codec.proofs.endian.be16.Goals as goal
-
-pub overflow_cast-hi : goal.overflow_cast-hi
-overflow_cast-hi c = omega (arith, c.type_inv.b c.args.off)
-
-pub overflow_cast-lo : goal.overflow_cast-lo
-overflow_cast-lo c = omega (arith, c.type_inv.b (c.args.off + 1))
-
-pub overflow_mul-result : goal.overflow_mul-result
-overflow_mul-result c = omega (arith, c.type_inv.b c.args.off)
-
-pub overflow_add-result : goal.overflow_add-result
-overflow_add-result c =
-    let off = c.args.off in
-    omega (arith, c.type_inv.b off, c.type_inv.b (off + 1))
 
 pub returns : goal.returns
 returns c =
     let a = c.args in
-    let l = a.b.now in
-    cc (be-read-byte l a.off (omega arith), be-read-byte l (a.off + 1) (omega arith), be-read l a.off 1 1 (omega arith))
+    read-2 a.b.now a.off (λ i. (c.type_inv.b i).fits) _ _ c.requires c.array_at.ensures c.from_be_bytes.type_inv c.from_be_bytes.ensures

@@ -1,9 +1,8 @@
--- `codec::endian::be32` meets its contract: the law of two parts, at two halves.
-use native.Mathlib.Omega.{arith}
-use Rattle.codec.proofs.Fields.{be-read}
+-- `codec::endian::be32` meets its contract.
+use Rattle.codec.proofs.NumberBytes.{read-4}
 use Rattle.codec.proofs.endian.be32.Goals as goal
 
 pub returns : goal.returns
 returns c =
     let a = c.args in
-    cc (be-read a.b.now a.off 2 2 (omega arith))
+    read-4 a.b.now a.off (λ i. (c.type_inv.b i).fits) _ _ c.requires c.array_at.ensures c.from_be_bytes.type_inv c.from_be_bytes.ensures

@@ -1,15 +1,8 @@
--- `codec::endian::be64` meets its contract: the law of two parts, at two bytes behind two, four and six.
-use native.Mathlib.Omega.{arith}
-use Rattle.codec.proofs.Fields.{be-read}
+-- `codec::endian::be64` meets its contract.
+use Rattle.codec.proofs.NumberBytes.{read-8}
 use Rattle.codec.proofs.endian.be64.Goals as goal
 
 pub returns : goal.returns
 returns c =
     let a = c.args in
-    let l = a.b.now in
-    omega (
-      arith,
-      be-read l a.off 2 2 (omega arith),
-      be-read l a.off 4 2 (omega arith),
-      be-read l a.off 6 2 (omega arith),
-    )
+    read-8 a.b.now a.off (λ i. (c.type_inv.b i).fits) _ _ c.requires c.array_at.ensures c.from_be_bytes.type_inv c.from_be_bytes.ensures

@@ -1,9 +1,10 @@
--- `codec::endian::put_be64` meets its contract: the law of two parts, at two halves.
-use native.Mathlib.Omega.{arith}
-use Rattle.codec.proofs.Fields.{be-write}
+-- `codec::endian::put_be64` meets its contract.
+use mathlib.Core.Path.{ap, ◌∙◌}
+use Rattle.codec.specs.Bytes.{with_bytes}
+use Rattle.codec.proofs.NumberBytes.{high_first}
 use Rattle.codec.proofs.endian.put_be64.Goals as goal
 
 pub returns : goal.returns
 returns c =
     let a = c.args in
-    cc (be-write a.b.now a.off 4 4 a.v (omega (arith, c.requires)))
+    c.put_array.ensures ∙ ap (with_bytes a.b.now a.off) (c.to_be_bytes.ensures ∙ high_first 8 a.v)

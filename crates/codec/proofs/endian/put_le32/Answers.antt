@@ -1,9 +1,10 @@
--- `codec::endian::put_le32` meets its contract: the law of two parts, at two halves.
-use native.Mathlib.Omega.{arith}
-use Rattle.codec.proofs.Fields.{le_write}
+-- `codec::endian::put_le32` meets its contract.
+use mathlib.Core.Path.{ap, ◌∙◌}
+use Rattle.codec.specs.Bytes.{with_bytes}
+use Rattle.codec.proofs.NumberBytes.{low_first-4}
 use Rattle.codec.proofs.endian.put_le32.Goals as goal
 
 pub returns : goal.returns
 returns c =
     let a = c.args in
-    cc (le_write a.b.now a.off 2 2 a.v (omega (arith, c.requires)))
+    c.put_array.ensures ∙ ap (with_bytes a.b.now a.off) (c.to_le_bytes.ensures ∙ low_first-4 a.v)

@@ -1,28 +1,21 @@
 -- `groups::let_go::measure_both` meets its contract, exit by exit.
-use mathlib.Core.Path.{sym, ap, subst, ◌∙◌}
-use Rattle.lists.specs.declared.splice.Edit.TheVariants.{Remove}
-use Rattle.lists.specs.declared.splice.Prepared.TheVariants as prepared
-use Rattle.lists.specs.Answer.{released_outcome}
-use Rattle.lists.specs.Splice.{PreparedIs}
+use Rattle.std.proofs.lemmas.Result.{err_from_is_err_and}
 use Rattle.groups.proofs.LettingGo.{measured-map, measured-counts, measured-ready}
 use Rattle.groups.proofs.let_go.measure_both.Goals as goal
 
-pub returns-in-Refused : goal.returns-in-Refused
-returns-in-Refused c =
+pub returns-in_err-splice : goal.returns-in_err-splice
+returns-in_err-splice c =
     let a = c.args in
-    measured-map a.map.now a.counts.now a.x _
-    (subst (PreparedIs Remove a.map.now a.x) c.in-Refused.is c.prepare-prepared.ensures)
+    let p = err_from_is_err_and c.from_residual.result c.from_residual.ensures.1 in
+    rw (p.1, p.2) (measured-map a.map.now a.counts.now a.x _ c.in_err-splice.ensures)
 
-pub returns-in-Refused-released : goal.returns-in-Refused-released
-returns-in-Refused-released c =
+pub returns-in_err-n : goal.returns-in_err-n
+returns-in_err-n c =
     let a = c.args in
-    let h : PreparedIs Remove a.map.now a.x (prepared.Ready c.in-Ready.p) = subst (PreparedIs Remove a.map.now a.x) c.in-Ready.is c.prepare-prepared.ensures in
-    measured-counts a.map.now a.counts.now a.x c.in-Ready.p h c.in-Refused-released.why
-    (ap released_outcome (sym c.in-Refused-released.is) ∙ c.measure-released.ensures)
+    let p = err_from_is_err_and c.from_residual-in_err-n.result c.from_residual-in_err-n.ensures.1 in
+    rw (p.1, p.2) (measured-counts a.map.now a.counts.now a.x c.in_ok-splice.splice c.in_ok-splice.ensures _ c.in_err-n.ensures)
 
-pub returns-in-Done : goal.returns-in-Done
-returns-in-Done c =
+pub returns : goal.returns
+returns c =
     let a = c.args in
-    let h : PreparedIs Remove a.map.now a.x (prepared.Ready c.in-Ready.p) = subst (PreparedIs Remove a.map.now a.x) c.in-Ready.is c.prepare-prepared.ensures in
-    measured-ready a.map.now a.counts.now a.x c.in-Ready.p h c.in-Done.n
-    (ap released_outcome (sym c.in-Done.is) ∙ c.measure-released.ensures)
+    measured-ready a.map.now a.counts.now a.x c.in_ok-splice.splice c.in_ok-splice.ensures c.in_ok-n.n c.in_ok-n.ensures

@@ -1,52 +1,30 @@
 -- `groups::take_held::measure_both` meets its contract, exit by exit.
-use mathlib.Core.Path.{sym, ap, subst, ◌∙◌}
-use Rattle.lists.specs.declared.splice.Edit.TheVariants.{InsertShared}
-use Rattle.lists.specs.declared.splice.Prepared.TheVariants as prepared
-use Rattle.lists.specs.Answer.{edited_outcome}
-use Rattle.lists.specs.Splice.{PreparedIs}
+use mathlib.Core.Path.{sym, ◌∙◌}
 use Rattle.groups.proofs.TakingHeld.{refused-by-map, ordered, refused-by-counts, refused-unheld, raise-ready}
 use Rattle.groups.proofs.take_held.measure_both.Goals as goal
 
-pub held_before-requires : goal.held_before-requires
-held_before-requires c =
+pub returns-in-Err : goal.returns-in-Err
+returns-in-Err c =
     let a = c.args in
-    let h : PreparedIs InsertShared a.map.now a.x (prepared.Ready c.in-Ready.p) =
-    subst (PreparedIs InsertShared a.map.now a.x) c.in-Ready.is c.prepare-prepared.ensures in
-    ordered a.map.now a.counts.now a.x c.in-Ready.p h
+    refused-by-map a.map.now a.counts.now a.x c.in-Err.why c.counts_before.result c.in-Err.ensures c.counts_before.ensures
+
+pub held_before-requires : goal.held_before-requires
+held_before-requires c = let a = c.args in ordered a.map.now a.counts.now a.x c.in-Ok.p c.in-Ok.ensures
+
+pub returns-in-Err-measure : goal.returns-in-Err-measure
+returns-in-Err-measure c =
+    let a = c.args in
+    refused-by-counts a.map.now a.counts.now a.x c.in-Ok.p c.in-Ok.ensures c.in-Err-measure.why c.held_before.result c.in-Err-measure.ensures c.held_before.ensures
 
 pub held-requires : goal.held-requires
-held-requires c =
-    let a = c.args in
-    let h : PreparedIs InsertShared a.map.now a.x (prepared.Ready c.in-Ready.p) =
-    subst (PreparedIs InsertShared a.map.now a.x) c.in-Ready.is c.prepare-prepared.ensures in
-    ordered a.map.now a.counts.now a.x c.in-Ready.p h
+held-requires c = let a = c.args in ordered a.map.now a.counts.now a.x c.in-Ok.p c.in-Ok.ensures
 
 pub returns-then-not-held : goal.returns-then-not-held
 returns-then-not-held c =
     let a = c.args in
-    let h : PreparedIs InsertShared a.map.now a.x (prepared.Ready c.in-Ready.p) =
-    subst (PreparedIs InsertShared a.map.now a.x) c.in-Ready.is c.prepare-prepared.ensures in
-    refused-unheld a.map.now a.counts.now a.x c.in-Ready.p h c.in-Done.n (ap edited_outcome (sym c.in-Done.is) ∙ c.measure-raised.ensures) _
-    c.held.ensures c.if-not-held.true-raw
+    refused-unheld a.map.now a.counts.now a.x c.in-Ok.p c.in-Ok.ensures c.in-Ok-measure.n c.in-Ok-measure.ensures (sym c.held.ensures ∙ c.if-not-held.true)
 
-pub returns-in-Refused : goal.returns-in-Refused
-returns-in-Refused c =
+pub returns : goal.returns
+returns c =
     let a = c.args in
-    refused-by-map a.map.now a.counts.now a.x c.in-Refused.why c.counts_before.result
-    (subst (PreparedIs InsertShared a.map.now a.x) c.in-Refused.is c.prepare-prepared.ensures) c.counts_before.ensures
-
-pub returns-in-Refused-raised : goal.returns-in-Refused-raised
-returns-in-Refused-raised c =
-    let a = c.args in
-    let h : PreparedIs InsertShared a.map.now a.x (prepared.Ready c.in-Ready.p) =
-    subst (PreparedIs InsertShared a.map.now a.x) c.in-Ready.is c.prepare-prepared.ensures in
-    refused-by-counts a.map.now a.counts.now a.x c.in-Ready.p h c.in-Refused-raised.why c.held_before.result
-    (ap edited_outcome (sym c.in-Refused-raised.is) ∙ c.measure-raised.ensures) c.held_before.ensures
-
-pub returns-else-not-held : goal.returns-else-not-held
-returns-else-not-held c =
-    let a = c.args in
-    let h : PreparedIs InsertShared a.map.now a.x (prepared.Ready c.in-Ready.p) =
-    subst (PreparedIs InsertShared a.map.now a.x) c.in-Ready.is c.prepare-prepared.ensures in
-    raise-ready a.map.now a.counts.now a.x c.in-Ready.p h c.in-Done.n (ap edited_outcome (sym c.in-Done.is) ∙ c.measure-raised.ensures) _
-    c.held.ensures c.if-not-held.false-raw
+    raise-ready a.map.now a.counts.now a.x c.in-Ok.p c.in-Ok.ensures c.in-Ok-measure.n c.in-Ok-measure.ensures (sym c.held.ensures ∙ c.if-not-held.false)

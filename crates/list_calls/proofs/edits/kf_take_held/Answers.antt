@@ -1,15 +1,20 @@
 -- `list_calls::edits::kf_take_held` meets its contract.
-use Rattle.interface.proofs.Saying.{says}
+use mathlib.Core.Path.{refl}
+use Rattle.lists.specs.Answer.{edit_number, edit_values}
+use Rattle.groups.specs.Answer.{group_edited_outcome}
+use Rattle.interface.proofs.Saying.{result-says}
 use Rattle.list_calls.specs.ListCalls.{group_figures}
 use Rattle.list_calls.proofs.edits.kf_take_held.Goals as goal
 
 pub returns : goal.returns
 returns c =
-    let e = c.take_held-edited.ensures in
+    let edited = c.take_held-edited in
     rw (← c.extent-x.ensures)
     (record {
-      answer = says group_figures c.group_edited_answer.ensures e.said (c.say.ensures.number, c.say.ensures.figures);
-      map_is = e.map_is;
-      counts_are = e.counts_are;
-      free_are = e.free_are;
+      answer =
+          result-says group_figures group_edited_outcome edit_number edit_values _ edited.result c.answer_of.ensures (λ n. refl) (λ r. refl) (λ n k. k) edited.ensures.said
+          (c.say.ensures.number, c.say.ensures.figures);
+      map_is = edited.ensures.map_is;
+      counts_are = edited.ensures.counts_are;
+      free_are = edited.ensures.free_are;
     })

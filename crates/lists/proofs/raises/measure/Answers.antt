@@ -1,28 +1,15 @@
 -- `lists::raises::measure` meets its contract.
-use mathlib.Core.Path.{sym, ◌∙◌}
-use mathlib.Core.Bool.{true}
-use Rattle.lists.proofs.Staged.{good-end}
-use Rattle.lists.proofs.Passing.{asks-measured}
-use Rattle.lists.proofs.RaiseExits.{raise-length, raise-extent, raise-pass}
+use mathlib.Core.Path.{ap, ◌∙◌}
+use Rattle.std.proofs.lemmas.Result.{err_from_is_err_and}
+use Rattle.codec.specs.Question.{map_outcome}
+use Rattle.lists.specs.declared.Lengths.{Lengths}
+use Rattle.lists.proofs.Measuring.{measured-raise}
 use Rattle.lists.proofs.raises.measure.Goals as goal
 
-pub refuse_extent-requires : goal.refuse_extent-requires
-refuse_extent-requires c = sym c.good_extent.ensures ∙ c.if-not-good_extent.true
-
-pub returns-then-not-good_extent : goal.returns-then-not-good_extent
-returns-then-not-good_extent c = let x = c.args in
-    c.counts_only.ensures
-    ∙ raise-extent x.counts.now x.startblock x.blockcount _ (sym c.good_extent.ensures ∙ c.if-not-good_extent.true) c.refuse_extent.ensures
-
-pub returns-then-counts-ne0 : goal.returns-then-counts-ne0
-returns-then-counts-ne0 c = raise-length _ _ _ c.if-counts-ne0.true
-
-pub pass-requires : goal.pass-requires
-pass-requires c = let g = c.good_extent in
-    asks-measured _ _ _ _ _ true (good-end _ _ (sym g.ensures ∙ c.if-not-good_extent.false))
+pub returns-in_err-lengths : goal.returns-in_err-lengths
+returns-in_err-lengths c = let x = c.args in
+    let p = err_from_is_err_and c.from_residual.result c.from_residual.ensures.1 in
+    rw (p.1, p.2) (ap (map_outcome (λ (n : Lengths). n.counts)) c.in_err-lengths.ensures ∙ measured-raise x.counts.now x.startblock x.blockcount)
 
 pub returns : goal.returns
-returns c = let x = c.args in
-    let g = c.good_extent in
-    c.counts_only-2.ensures
-    ∙ raise-pass x.counts.now x.startblock x.blockcount _ c.if-counts-ne0.false (sym g.ensures ∙ c.if-not-good_extent.false) c.pass.ensures.said
+returns c = let x = c.args in ap (map_outcome (λ (n : Lengths). n.counts)) c.in_ok-lengths.ensures ∙ measured-raise x.counts.now x.startblock x.blockcount

@@ -1,22 +1,8 @@
 -- `lists::refcounts::measure` meets its contract.
-use mathlib.Core.Path.{sym, ◌∙◌}
-use mathlib.Core.Bool.{false}
-use Rattle.lists.proofs.Staged.{good-end}
-use Rattle.lists.proofs.Passing.{asks-measured}
-use Rattle.lists.proofs.Releasing.{measure-length, measure-pass}
+use mathlib.Core.Path.{ap, ◌∙◌}
+use Rattle.lists.specs.Answer.{lengths_of}
+use Rattle.lists.proofs.Measuring.{measured-lower}
 use Rattle.lists.proofs.refcounts.measure.Goals as goal
 
-pub refuse_extent-requires : goal.refuse_extent-requires
-refuse_extent-requires c = sym c.good_extent.ensures ∙ c.if-not-good_extent.true
-
-pub returns-then-counts-ne0 : goal.returns-then-counts-ne0
-returns-then-counts-ne0 c = measure-length _ _ _ c.if-counts-ne0.true
-
-pub pass-requires : goal.pass-requires
-pass-requires c = let g = c.good_extent in
-    asks-measured _ _ _ _ _ false (good-end _ _ (sym g.ensures ∙ c.if-not-good_extent.false))
-
 pub returns : goal.returns
-returns c = let x = c.args in
-    let g = c.good_extent in
-    measure-pass x.counts.now x.startblock x.blockcount _ c.if-counts-ne0.false (sym g.ensures ∙ c.if-not-good_extent.false) c.pass.ensures.said
+returns c = let x = c.args in c.measured.ensures ∙ ap lengths_of (measured-lower x.counts.now x.startblock x.blockcount)

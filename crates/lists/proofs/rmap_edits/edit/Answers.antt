@@ -1,35 +1,23 @@
 -- `lists::rmap_edits::edit` meets its contract.
-use mathlib.Core.Path.{subst}
-use Rattle.lists.specs.declared.splice.Prepared.TheVariants.{Ready}
-use Rattle.lists.specs.Splice.{PreparedIs}
+use Rattle.std.proofs.lemmas.Result.{err_from_is_err_and}
 use Rattle.lists.proofs.Placing.{edit-refused, edit-short, edit-done}
 use Rattle.lists.proofs.rmap_edits.edit.Goals as goal
 
-pub returns-then-new-size : goal.returns-then-new-size
-returns-then-new-size c =
+pub returns-in_err-p : goal.returns-in_err-p
+returns-in_err-p c =
     let a = c.args in
-    let b = a.old.now in
-    let p = c.in-Ready.p in
-    let h : PreparedIs a.e b a.x (Ready p) = subst (PreparedIs a.e b a.x) c.in-Ready.is c.prepare-prepared.ensures in
-    edit-short a.e b a.x a.new.now p h c.if-new-size.true
+    let p = err_from_is_err_and c.from_residual.result c.from_residual.ensures.1 in
+    rw (p.1, p.2) (edit-refused a.e a.old.now a.x a.new.now _ c.in_err-p.ensures)
+
+pub returns-then-new-p : goal.returns-then-new-p
+returns-then-new-p c =
+    let a = c.args in
+    edit-short a.e a.old.now a.x a.new.now c.in_ok-p.p c.in_ok-p.ensures c.if-new-p.true
 
 pub write_splice-requires : goal.write_splice-requires
-write_splice-requires c =
-    let a = c.args in
-    let b = a.old.now in
-    let p = c.in-Ready.p in
-    let h : PreparedIs a.e b a.x (Ready p) = subst (PreparedIs a.e b a.x) c.in-Ready.is c.prepare-prepared.ensures in
-    record { splice_good = h.1; size_in_bounds = c.if-new-size.false }
+write_splice-requires c = record { splice_good = c.in_ok-p.ensures.1; size_in_bounds = c.if-new-p.false }
 
-pub returns-in-Refused : goal.returns-in-Refused
-returns-in-Refused c =
+pub returns : goal.returns
+returns c =
     let a = c.args in
-    edit-refused a.e a.old.now a.x a.new.now _ (subst (PreparedIs a.e a.old.now a.x) c.in-Refused.is c.prepare-prepared.ensures)
-
-pub returns-else-new-size : goal.returns-else-new-size
-returns-else-new-size c =
-    let a = c.args in
-    let b = a.old.now in
-    let p = c.in-Ready.p in
-    let h : PreparedIs a.e b a.x (Ready p) = subst (PreparedIs a.e b a.x) c.in-Ready.is c.prepare-prepared.ensures in
-    edit-done a.e b a.x a.new.now p h _ c.if-new-size.false c.write_splice.ensures
+    edit-done a.e a.old.now a.x a.new.now c.in_ok-p.p c.in_ok-p.ensures _ c.if-new-p.false c.write_splice.ensures

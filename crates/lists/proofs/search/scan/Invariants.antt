@@ -1,9 +1,7 @@
 -- `lists::search::scan` meets its contract. The invariant: the records from i on are in order behind the last one tested exactly when the whole
--- list is, each search has found what there is among the first i, and the record i is read.
-use Prim.Native.Nat.{◌≤◌, ◌<◌, ◌*◌, ◌-◌, ◌/◌}
+-- list is, and each search has found what there is among the first i.
 use mathlib.Core.Path.{◌≡◌}
-use lib.ListN.{length, drop}
-use Rattle.codec.specs.Bytes.{bytes_at}
+use lib.ListN.{drop}
 use Rattle.codec.specs.Records.{records_of, rmaps}
 use Rattle.codec.specs.Accepted.{in_order}
 use Rattle.codec.specs.Rmaps.{good, follows, accepted}
@@ -12,10 +10,5 @@ use Rattle.lists.proofs.search.scan.Given as goal
 
 abbrev pub invariant-loop-i : goal.invariant-loop-i
 invariant-loop-i l =
-    (l.i ≤ length l.list / 24)
-    × (accepted (records_of rmaps l.list) ≡ in_order good follows l.prev (drop l.i (records_of rmaps l.list)))
+    (accepted (records_of rmaps l.list) ≡ in_order good follows l.prev (drop l.i (records_of rmaps l.list)))
     × Seen l.e l.x l.list l.i l.s
-    × (l.i < length l.list / 24 → l.r ≡ rmaps.decode (bytes_at l.list (l.i * 24) 24))
-
-abbrev pub decreases-loop-i : goal.decreases-loop-i
-decreases-loop-i l = length l.list / 24 - l.i

@@ -1,30 +1,29 @@
 -- `lists::unchanged::run_end` meets its contract. The invariant: whatever stays behind the records passed stays behind all of them.
+use Prim.Native.Nat.{◌/◌}
 use native.Mathlib.Omega.{arith}
+use mathlib.Core.Path.{◌≡◌}
+use lib.ListN.{length}
 use Rattle.codec.specs.Records.{records_of, refcounts}
 use Rattle.lists.proofs.Passing.{next}
-use Rattle.lists.proofs.Staying.{stay-start, stay-next, stay-done}
+use Rattle.lists.proofs.Staying.{stay-next, stay-done}
 use Rattle.lists.proofs.unchanged.run_end.Goals as goal
 
-pub loop-j-init : goal.loop-j-init
-loop-j-init c = let a = c.args in (omega arith, c.requires, stay-start (records_of refcounts a.counts.now) a.i a.stop a.owners a.s a.high)
-
-pub returns-then-not-stays : goal.returns-then-not-stays
-returns-then-not-stays c = let a = c.args in
+pub returns-then-not-stays-clause-all_stay : goal.returns-then-not-stays-clause-all_stay
+returns-then-not-stays-clause-all_stay c = let a = c.args in
     let l = c.loop-j in
-    record { lower_bound = (l.invariant.0, l.invariant.1); all_stay = stay-done (records_of refcounts a.counts.now) a.i a.stop a.owners a.s a.high l.j l.last_stop l.last_owners l.invariant.2 }
+    stay-done (records_of refcounts a.counts.now) a.i a.stop a.owners a.s a.high l.j l.last_stop l.last_owners l.invariant
 
 pub loop-j-preserved : goal.loop-j-preserved
 loop-j-preserved c = let a = c.args in
     let b = a.counts.now in
     let l = c.loop-j in
-    let d = c.decode-r in (
-      omega arith,
-      omega (arith, c.loop-j-test.true),
-      stay-next (records_of refcounts b) a.i a.stop a.owners a.s a.high l.j l.last_stop l.last_owners l.invariant.2 d.result _ l.invariant.0
-          (next b l.j d.result c.loop-j-test.true d.ensures) (c.stays.ensures (c.if-not-stays.false)),
-    )
+    let d = c.decode-r in
+    stay-next (records_of refcounts b) a.i a.stop a.owners a.s a.high l.j l.last_stop l.last_owners l.invariant d.result _ (omega arith)
+    (next b l.j d.result c.loop-j-test.true d.ensures) (c.stays.ensures (c.if-not-stays.false))
 
-pub returns : goal.returns
-returns c = let a = c.args in
+pub returns-clause-all_stay : goal.returns-clause-all_stay
+returns-clause-all_stay c = let a = c.args in
     let l = c.loop-j in
-    record { lower_bound = (l.invariant.0, l.invariant.1); all_stay = stay-done (records_of refcounts a.counts.now) a.i a.stop a.owners a.s a.high l.j l.last_stop l.last_owners l.invariant.2 }
+    let end : l.j ≡ length a.counts.now / 12 = omega (arith, c.requires) in
+    let stay = stay-done (records_of refcounts a.counts.now) a.i a.stop a.owners a.s a.high l.j l.last_stop l.last_owners l.invariant in
+    rw end at stay

@@ -1,7 +1,5 @@
 -- `lists::unchanged::run_end` meets its contract. The invariant: whatever stays behind the records passed stays behind all of them.
-use Prim.Native.Nat.{◌≤◌, ◌-◌, ◌/◌}
 use mathlib.Core.List.{List, ◌++◌}
-use lib.ListN.{length}
 use Rattle.codec.specs.Records.{records_of, refcounts}
 use Rattle.codec.specs.declared.refcount.Refcount.{Refcount}
 use Rattle.lists.specs.Splice.{between}
@@ -10,9 +8,4 @@ use Rattle.lists.proofs.unchanged.run_end.Given as goal
 
 abbrev pub invariant-loop-j : goal.invariant-loop-j
 invariant-loop-j l =
-    (l.i ≤ l.j)
-    × (l.j ≤ length l.counts / 12)
-    × ((rest : List Refcount) → AllStay l.last_stop l.last_owners l.s l.high rest → AllStay l.stop l.owners l.s l.high (between (records_of refcounts l.counts) l.i l.j ++ rest))
-
-abbrev pub decreases-loop-j : goal.decreases-loop-j
-decreases-loop-j l = length l.counts / 12 - l.j
+    ((rest : List Refcount) → AllStay l.last_stop l.last_owners l.s l.high rest → AllStay l.stop l.owners l.s l.high (between (records_of refcounts l.counts) l.i l.j ++ rest))

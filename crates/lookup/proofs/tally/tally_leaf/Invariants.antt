@@ -8,8 +8,5 @@ abbrev pub invariant-loop-i : goal.invariant-loop-i
 invariant-loop-i l =
     (l.i ≤ length l.records / 24)
     × (length l.answers ≡ length l.initial.answers)
-    × (tallied (drop l.i (records_of rmaps l.records)) l.asked (summed (length l.asked) l.answers) ≡ tallied (records_of rmaps l.records) l.asked (summed (length l.asked) l.initial.answers))
-    × Room (length l.records / 24 - l.i) l.asked (summed (length l.asked) l.answers)
-
-abbrev pub decreases-loop-i : goal.decreases-loop-i
-decreases-loop-i l = length l.records / 24 - l.i
+    × (tallied (drop l.i (records_of rmaps l.records)) l.asked.numbers.now (summed (length l.asked.numbers.now) l.answers) ≡ tallied (records_of rmaps l.records) l.asked.numbers.now (summed (length l.asked.numbers.now) l.initial.answers))
+    × Room (length l.records / 24 - l.i) l.asked.numbers.now (summed (length l.asked.numbers.now) l.answers)

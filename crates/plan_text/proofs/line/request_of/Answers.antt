@@ -1,17 +1,15 @@
 -- `plan_text::line::request_of` meets its contract.
-use mathlib.Core.Path.{ap, sym, ◌∙◌}
-use Rattle.plan_text.specs.Inner.Readings.{number, named}
 use Rattle.plan_text.proofs.LineLaws.{request-name, request-size, request-count, request-done}
 use Rattle.plan_text.proofs.line.request_of.Goals as goal
 
-pub returns-in_default : goal.returns-in_default
-returns-in_default c = let a = c.args in request-name a.name.now a.size.now a.count.now (sym (ap named c.in_default.is) ∙ c.kind_of-named.ensures)
+pub returns-in_err-kind : goal.returns-in_err-kind
+returns-in_err-kind c = let a = c.args in rw c.from_residual.ensures (request-name a.name.now a.size.now a.count.now c.in_err-kind.ensures)
 
-pub returns-in_default-first : goal.returns-in_default-first
-returns-in_default-first c = let a = c.args in request-size a.name.now a.size.now a.count.now c.in-Tree.kind (sym (ap named c.in-Tree.is) ∙ c.kind_of-named.ensures) (sym (ap number c.in_default-first.is) ∙ c.number_of-first.ensures)
+pub returns-in_err-blocksize : goal.returns-in_err-blocksize
+returns-in_err-blocksize c = let a = c.args in rw c.from_residual-in_err-blocksize.ensures (request-size a.name.now a.size.now a.count.now _ c.in_ok-kind.ensures c.in_err-blocksize.ensures)
 
-pub returns-in_default-second : goal.returns-in_default-second
-returns-in_default-second c = let a = c.args in request-count a.name.now a.size.now a.count.now c.in-Tree.kind (sym (ap named c.in-Tree.is) ∙ c.kind_of-named.ensures) c.in-Value.blocksize (sym (ap number c.in-Value.is) ∙ c.number_of-first.ensures) (sym (ap number c.in_default-second.is) ∙ c.number_of-second.ensures)
+pub returns-in_err-records : goal.returns-in_err-records
+returns-in_err-records c = let a = c.args in rw c.from_residual-in_err-records.ensures (request-count a.name.now a.size.now a.count.now _ c.in_ok-kind.ensures _ c.in_ok-blocksize.ensures c.in_err-records.ensures)
 
 pub returns : goal.returns
-returns c = let a = c.args in request-done a.name.now a.size.now a.count.now c.in-Tree.kind (sym (ap named c.in-Tree.is) ∙ c.kind_of-named.ensures) c.in-Value.blocksize (sym (ap number c.in-Value.is) ∙ c.number_of-first.ensures) c.in-Value-second.records (sym (ap number c.in-Value-second.is) ∙ c.number_of-second.ensures)
+returns c = let a = c.args in request-done a.name.now a.size.now a.count.now _ c.in_ok-kind.ensures _ c.in_ok-blocksize.ensures _ c.in_ok-records.ensures

@@ -1,7 +1,5 @@
 -- `plan_text::text::put_line` meets its contract.
-use mathlib.Core.Path.{◌∙◌}
 use native.Mathlib.Omega.{arith}
-use lib.ListN.{length-set}
 use Rattle.plan_text.proofs.TextLaws.{digits-room, length-line, line-done}
 use Rattle.plan_text.proofs.text.put_line.Goals as goal
 
@@ -19,9 +17,6 @@ pub overflow_add-result : goal.overflow_add-result
 overflow_add-result c =
     let d = digits-room c.args.n c.ranges.n.fits in
     omega (arith, c.requires, c.put_decimal-k.ensures.value)
-
-pub shape_of-out : goal.shape_of-out
-shape_of-out c = length-set c.put_decimal-k.new.out _ _ ∙ c.put_decimal-k.auto.out ∙ c.copy.auto.dst
 
 pub returns : goal.returns
 returns c =

@@ -1,25 +1,27 @@
 -- `reasons::explain::decide` meets its contract.
-use Rattle.std.proofs.Common.{sym, ap, ◌∙◌}
-use Rattle.lists.specs.Answer.{released_outcome}
-use Rattle.reasons.specs.Inner.Finding.{other_outcome}
-use Rattle.reasons.proofs.Deciding.{map-refused, counts-refused, counts-done}
+use Rattle.std.proofs.Common.{◌∙◌}
+use Rattle.std.proofs.lemmas.Result.{err_from_is_err_and}
+use Rattle.reasons.proofs.Deciding.{map-refused, refused-other, counts-refused, counts-done}
 use Rattle.reasons.proofs.explain.decide.Goals as goal
 
-pub returns-in-Refused : goal.returns-in-Refused
-returns-in-Refused c =
+pub returns-in_err-other : goal.returns-in_err-other
+returns-in_err-other c =
+    let p = err_from_is_err_and c.from_residual.result c.from_residual.ensures.1 in
     let a = c.args in
-    map-refused a.map.now a.counts.now a.x a.block c.in-Refused.refusal (ap other_outcome (sym c.in-Refused.is) ∙ c.find_other-found.ensures)
+    rw (p.1, p.2) (map-refused a.map.now a.counts.now a.x a.block _ c.in_err-other.ensures)
 
-pub returns-in-Refused-released : goal.returns-in-Refused-released
-returns-in-Refused-released c =
+pub returns-in-Staging : goal.returns-in-Staging
+returns-in-Staging c =
     let a = c.args in
-    c.explain_refused.ensures
-    ∙ counts-refused a.map.now a.counts.now a.x a.block c.in-At.other (ap other_outcome (sym c.in-At.is) ∙ c.find_other-found.ensures)
-    c.in-Refused-released.refusal (ap released_outcome (sym c.in-Refused-released.is) ∙ c.measure-released.ensures)
+    c.explain_staged.ensures ∙ (rw c.in-Staging.is at (counts-refused a.map.now a.counts.now a.x a.block _ c.in_ok-other.ensures c.in-Err.refusal c.in-Err.ensures))
 
-pub returns-in-Done : goal.returns-in-Done
-returns-in-Done c =
+pub returns-in_default : goal.returns-in_default
+returns-in_default c =
     let a = c.args in
-    c.explain_clear.ensures
-    ∙ counts-done a.map.now a.counts.now a.x a.block c.in-At.other (ap other_outcome (sym c.in-At.is) ∙ c.find_other-found.ensures)
-    _ (ap released_outcome (sym c.in-Done.is) ∙ c.measure-released.ensures)
+    refused-other a.counts.now a.x a.block c.in-Err.refusal c.in_default.not-Staging
+    ∙ counts-refused a.map.now a.counts.now a.x a.block _ c.in_ok-other.ensures c.in-Err.refusal c.in-Err.ensures
+
+pub returns-in-Ok : goal.returns-in-Ok
+returns-in-Ok c =
+    let a = c.args in
+    c.explain_clear.ensures ∙ counts-done a.map.now a.counts.now a.x a.block _ c.in_ok-other.ensures _ c.in-Ok.ensures

@@ -1,5 +1,5 @@
 -- `reasons::explain::explain_clear` meets its contract.
-use Rattle.std.proofs.Common.{sym, refl, ap, ◌∙◌}
+use Rattle.std.proofs.Common.{◌∙◌, sym, refl, ap}
 use Rattle.codec.specs.Question.{done}
 use Rattle.reasons.proofs.explain.explain_clear.Goals as goal
 

@@ -2,17 +2,11 @@
 use Rattle.reasons.proofs.Deciding.{free_now, held-in-map, held-in-counts}
 use Rattle.reasons.proofs.explain.holder.Goals as goal
 
-pub returns-then-counts-shared : goal.returns-then-counts-shared
-returns-then-counts-shared c =
-    let a = c.args in
-    free_now a.map.now a.counts.now a.other a.block _ c.find_count-shared.ensures c.if-counts-shared.true
+pub returns-in-None : goal.returns-in-None
+returns-in-None c = let a = c.args in free_now a.map.now a.counts.now a.other a.block c.in-None.ensures
 
-pub returns-then-other-map : goal.returns-then-other-map
-returns-then-other-map c =
-    let a = c.args in
-    held-in-map a.map.now a.counts.now a.other a.block _ c.find_count-shared.ensures c.if-counts-shared.false c.if-other-map.true
+pub returns-in-Some : goal.returns-in-Some
+returns-in-Some c = let a = c.args in held-in-map a.map.now a.counts.now a.other a.block _ c.in-Some.ensures c.if-other-map.true
 
-pub returns : goal.returns
-returns c =
-    let a = c.args in
-    held-in-counts a.map.now a.counts.now a.other a.block _ c.find_count-shared.ensures c.if-counts-shared.false c.if-other-map.false
+pub returns-in-Some-2 : goal.returns-in-Some-2
+returns-in-Some-2 c = let a = c.args in held-in-counts a.map.now a.counts.now a.other a.block _ c.in-Some.ensures c.if-other-map.false

@@ -1,57 +1,30 @@
 -- `reasons::explain::record_at` meets its contract.
-use Rattle.std.proofs.Common.{◌≡◌, ℕ, ◌+◌, ◌-◌, ◌*◌, ◌/◌, length, take, drop, sym, ap, ◌∙◌, subst, le_trans, le-add_right, lt_of_le_of_lt, arith}
-use Rattle.codec.specs.Bytes.{bytes_at}
-use Rattle.reasons.specs.declared.explain.Why.{Why}
+use Rattle.std.proofs.Common.{◌/◌, ◌<◌, ◌∙◌, length, sym, ap, inl, inr, arith}
 use Rattle.reasons.specs.Why.{deciding_bytes}
-use Rattle.reasons.specs.Answer.{Named}
-use Rattle.reasons.proofs.Tests.{record-inside}
+use Rattle.codec.proofs.Chunks.{chunk-at}
 use Rattle.reasons.proofs.explain.record_at.Goals as goal
+use Rattle.reasons.proofs.explain.record_at.Goals.{In-HeldInCounts}
 
--- a part from a to a + n has n elements
-width : (a n : ℕ) → a + n - a ≡ n
-width a n = omega arith
-
-pub overflow_mul-at : goal.overflow_mul-at
-overflow_mul-at c = record { fits = lt_of_le_of_lt (le_trans (le-add_right _ 24) (record-inside 24 _ (length c.args.map.now) (subst (λ (w : Why). Named w (length c.args.map.now / 24) (length c.args.counts.now / 12)) c.in-HeldInMap.is c.requires))) c.well_formed.0.0 }
-
-pub overflow_add-result : goal.overflow_add-result
-overflow_add-result c = record { fits = lt_of_le_of_lt (record-inside 24 _ (length c.args.map.now) (subst (λ (w : Why). Named w (length c.args.map.now / 24) (length c.args.counts.now / 12)) c.in-HeldInMap.is c.requires)) c.well_formed.0.0 }
-
-pub slice_bounds-result-end-in-HeldInMap : goal.slice_bounds-result-end-in-HeldInMap
-slice_bounds-result-end-in-HeldInMap c = record-inside 24 _ (length c.args.map.now) (subst (λ (w : Why). Named w (length c.args.map.now / 24) (length c.args.counts.now / 12)) c.in-HeldInMap.is c.requires)
-
-pub overflow_mul-at-in-HeldInCounts : goal.overflow_mul-at-in-HeldInCounts
-overflow_mul-at-in-HeldInCounts c = record { fits = lt_of_le_of_lt (le_trans (le-add_right _ 12) (record-inside 12 _ (length c.args.counts.now) (subst (λ (w : Why). Named w (length c.args.map.now / 24) (length c.args.counts.now / 12)) c.in-HeldInCounts.is c.requires))) c.well_formed.1.0.0 }
-
-pub overflow_add-result-in-HeldInCounts : goal.overflow_add-result-in-HeldInCounts
-overflow_add-result-in-HeldInCounts c = record { fits = lt_of_le_of_lt (record-inside 12 _ (length c.args.counts.now) (subst (λ (w : Why). Named w (length c.args.map.now / 24) (length c.args.counts.now / 12)) c.in-HeldInCounts.is c.requires)) c.well_formed.1.0.0 }
-
-pub slice_bounds-result-end-in-HeldInCounts : goal.slice_bounds-result-end-in-HeldInCounts
-slice_bounds-result-end-in-HeldInCounts c = record-inside 12 _ (length c.args.counts.now) (subst (λ (w : Why). Named w (length c.args.map.now / 24) (length c.args.counts.now / 12)) c.in-HeldInCounts.is c.requires)
-
-pub overflow_mul-at-in-Staging : goal.overflow_mul-at-in-Staging
-overflow_mul-at-in-Staging c = record { fits = lt_of_le_of_lt (le_trans (le-add_right _ 12) (record-inside 12 _ (length c.args.counts.now) (subst (λ (w : Why). Named w (length c.args.map.now / 24) (length c.args.counts.now / 12)) c.in-Staging.is c.requires))) c.well_formed.1.0.0 }
-
-pub overflow_add-result-in-Staging : goal.overflow_add-result-in-Staging
-overflow_add-result-in-Staging c = record { fits = lt_of_le_of_lt (record-inside 12 _ (length c.args.counts.now) (subst (λ (w : Why). Named w (length c.args.map.now / 24) (length c.args.counts.now / 12)) c.in-Staging.is c.requires)) c.well_formed.1.0.0 }
-
-pub slice_bounds-result-end-in-Staging : goal.slice_bounds-result-end-in-Staging
-slice_bounds-result-end-in-Staging c = record-inside 12 _ (length c.args.counts.now) (subst (λ (w : Why). Named w (length c.args.map.now / 24) (length c.args.counts.now / 12)) c.in-Staging.is c.requires)
+pub bounds-as_chunks-i : goal.bounds-as_chunks-i
+bounds-as_chunks-i c = let h : c.in-HeldInMap.i < length c.args.map.now / 24 = rw c.in-HeldInMap.is at c.requires in omega (arith, h)
 
 pub returns-in-HeldInMap : goal.returns-in-HeldInMap
-unfolding bytes_at
 returns-in-HeldInMap c =
     let a = c.args in
-    ap (λ (n : ℕ). take n (drop (c.in-HeldInMap.i * 24) a.map.now)) (width (c.in-HeldInMap.i * 24) 24) ∙ ap (deciding_bytes a.map.now a.counts.now) (sym c.in-HeldInMap.is)
+    chunk-at 24 a.map.now c.as_chunks.ensures.front c.in-HeldInMap.i (rw c.in-HeldInMap.is at c.requires)
+    ∙ ap (deciding_bytes a.map.now a.counts.now) (sym c.in-HeldInMap.is)
+
+counts-has : (c : In-HeldInCounts) → c.in-HeldInCounts.i < length c.args.counts.now / 12
+counts-has c = elim c.in-HeldInCounts.is [ inl e ↦ rw e at c.requires | inr e ↦ rw e at c.requires ]
+
+pub bounds-as_chunks-i-in-HeldInCounts : goal.bounds-as_chunks-i-in-HeldInCounts
+bounds-as_chunks-i-in-HeldInCounts c = omega (arith, counts-has (goal.at.bounds-as_chunks-i-in-HeldInCounts c).In-HeldInCounts)
 
 pub returns-in-HeldInCounts : goal.returns-in-HeldInCounts
-unfolding bytes_at
 returns-in-HeldInCounts c =
     let a = c.args in
-    ap (λ (n : ℕ). take n (drop (c.in-HeldInCounts.i * 12) a.counts.now)) (width (c.in-HeldInCounts.i * 12) 12) ∙ ap (deciding_bytes a.map.now a.counts.now) (sym c.in-HeldInCounts.is)
-
-pub returns-in-Staging : goal.returns-in-Staging
-unfolding bytes_at
-returns-in-Staging c =
-    let a = c.args in
-    ap (λ (n : ℕ). take n (drop (c.in-Staging.i * 12) a.counts.now)) (width (c.in-Staging.i * 12) 12) ∙ ap (deciding_bytes a.map.now a.counts.now) (sym c.in-Staging.is)
+    chunk-at 12 a.counts.now c.as_chunks-in-HeldInCounts.ensures.front c.in-HeldInCounts.i (counts-has (goal.at.returns-in-HeldInCounts c).In-HeldInCounts)
+    ∙ elim c.in-HeldInCounts.is [
+      | inl e ↦ ap (deciding_bytes a.map.now a.counts.now) (sym e)
+      | inr e ↦ ap (deciding_bytes a.map.now a.counts.now) (sym e)
+    ]

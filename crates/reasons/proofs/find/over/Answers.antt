@@ -1,9 +1,13 @@
 -- `reasons::find::over` meets its contract.
-use Rattle.reasons.proofs.Tests.{over-behind, over-before}
+use Rattle.std.proofs.Common.{arith}
+use Rattle.std.proofs.lemmas.Bool.Decides.{nat_tests}
+use Rattle.lists.specs.Extent.{over}
 use Rattle.reasons.proofs.find.over.Goals as goal
 
-pub returns-then-startblock-blockcount : goal.returns-then-startblock-blockcount
-returns-then-startblock-blockcount c = over-behind _ _ _ c.if-startblock-blockcount.true
+pub returns-then-startblock-block : goal.returns-then-startblock-block
+unfolding over
+returns-then-startblock-block c = grind (arith, nat_tests)
 
-pub returns : goal.returns
-returns c = over-before _ _ _ c.if-startblock-blockcount.false
+pub returns-else-startblock-block : goal.returns-else-startblock-block
+unfolding over
+returns-else-startblock-block c = grind (arith, nat_tests)

@@ -5,4 +5,4 @@ use Rattle.reasons.proofs.Tests.{over-wrapped}
 use Rattle.reasons.proofs.scan.is_over.Goals as goal
 
 pub returns : goal.returns
-returns c = over-wrapped c.args.r.startblock c.args.r.blockcount c.args.block _ (good-facts c.args.r c.requires).1 (omega arith) (omega arith) c.wrapping_sub_u32.ensures.value
+returns c = over-wrapped c.args.r.startblock c.args.r.blockcount c.args.block _ (good-facts c.args.r c.requires).1 (omega arith) (omega arith) (omega arith)

@@ -1,5 +1,5 @@
 -- `reasons::scan::noted` meets its contract.
-use Rattle.std.proofs.Common.{sym, ◌∙◌}
+use Rattle.std.proofs.Common.{◌∙◌, sym}
 use Rattle.reasons.proofs.Finding.{noted-apart, noted-over}
 use Rattle.reasons.proofs.scan.noted.Goals as goal
 

@@ -1,20 +1,24 @@
 -- `sheets::block::good_header` meets its contract.
-use mathlib.Core.Path.{sym, ◌∙◌}
-use Rattle.sheets.proofs.Deciding.{place-wrong, number-wrong, mark-wrong, header_is}
+use native.Mathlib.Omega.{arith}
+use Rattle.std.proofs.lemmas.Bool.Decides.{nat_tests}
+use Rattle.codec.proofs.Stores.{bytes_at-is}
+use Rattle.sheets.specs.Sheet.{good_header}
+use Rattle.sheets.proofs.Deciding.{mark-at}
 use Rattle.sheets.proofs.block.good_header.Goals as goal
-
-pub returns-then-be32-place : goal.returns-then-be32-place
-returns-then-be32-place c = place-wrong _ c.requires _ _ _ c.be32.ensures c.if-be32-place.true
-
-pub returns-then-not-good_count : goal.returns-then-not-good_count
-returns-then-not-good_count c = number-wrong _ c.requires _ _ _ c.be32.ensures c.if-be32-place.false _ c.be16.ensures (sym c.good_count.ensures ∙ c.if-not-good_count.true)
+use Rattle.sheets.proofs.block.good_header.Goals.{then-be32-place, else-be32-place, then-good_count, else-good_count}
 
 pub returns-then-b-mark : goal.returns-then-b-mark
+unfolding good_header
 returns-then-b-mark c =
-    mark-wrong _ c.requires _ _ _ c.be32.ensures c.if-be32-place.false _ c.be16.ensures
-    (sym c.good_count.ensures ∙ c.if-not-good_count.false) _ c.mark.ensures c.if-b-mark.true
+    let m = mark-at c.args.b.now (omega arith) in
+    let z = bytes_at-is c.args.b.now 11 21 in
+    grind (arith, nat_tests, m, z)
 
-pub returns : goal.returns
-returns c =
-    header_is _ c.requires _ _ _ c.be32.ensures c.if-be32-place.false _ c.be16.ensures
-    (sym c.good_count.ensures ∙ c.if-not-good_count.false) _ c.mark.ensures _ c.if-b-mark.false c.is_zeros.ensures
+pub returns-else-b-mark : goal.returns-else-b-mark
+unfolding good_header
+returns-else-b-mark c =
+    let m = mark-at c.args.b.now (omega arith) in
+    elim c.if-be32-place.branch [
+      | then-be32-place v ↦ elim c.if-good_count.branch [ then-good_count w ↦ grind (arith, nat_tests, m) | else-good_count w ↦ grind (arith, nat_tests, m) ]
+      | else-be32-place v ↦ elim c.if-good_count.branch [ then-good_count w ↦ grind (arith, nat_tests, m) | else-good_count w ↦ grind (arith, nat_tests, m) ]
+    ]

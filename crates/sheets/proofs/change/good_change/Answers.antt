@@ -1,12 +1,13 @@
 -- `sheets::change::good_change` meets its contract.
-use Rattle.sheets.proofs.Deciding.{kind-low, kind-high, kind-good}
+use Rattle.std.proofs.Common.{arith}
+use Rattle.std.proofs.lemmas.Bool.Decides.{nat_tests}
+use Rattle.sheets.specs.Change.{good_change}
 use Rattle.sheets.proofs.change.good_change.Goals as goal
 
-pub returns-then-kind-lt-FIRST_TAKE : goal.returns-then-kind-lt-FIRST_TAKE
-returns-then-kind-lt-FIRST_TAKE c = kind-low _ _ _ c.be32-kind.ensures c.if-kind-lt-FIRST_TAKE.true
+pub returns-then-contains : goal.returns-then-contains
+unfolding good_change
+returns-then-contains c = grind (arith, nat_tests)
 
-pub returns-then-kind-gt-TAKE_HELD : goal.returns-then-kind-gt-TAKE_HELD
-returns-then-kind-gt-TAKE_HELD c = kind-high _ _ _ c.be32-kind.ensures c.if-kind-lt-FIRST_TAKE.false c.if-kind-gt-TAKE_HELD.true
-
-pub returns : goal.returns
-returns c = kind-good _ _ _ c.be32-kind.ensures _ c.be32.ensures c.if-kind-lt-FIRST_TAKE.false c.if-kind-gt-TAKE_HELD.false
+pub returns-else-contains : goal.returns-else-contains
+unfolding good_change
+returns-else-contains c = grind (arith, nat_tests)

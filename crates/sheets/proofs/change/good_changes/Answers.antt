@@ -1,21 +1,17 @@
--- `sheets::change::good_changes` meets its contract. The invariant: the changes from i on decide as the whole list.
-use native.Mathlib.Omega.{arith}
-use mathlib.Core.Path.{sym, ◌∙◌}
-use Rattle.sheets.proofs.Passing.{good_from-start, good_from-bad, good_from-pass, good_from-end}
+-- `sheets::change::good_changes` meets its contract.
+use Rattle.std.proofs.Common.{rules, tests}
+use lib.ListN.{length}
+use Prim.Native.Nat.{◌/◌}
+use mathlib.Core.Path.{ap, ◌∙◌}
+use Rattle.std.specs.List.{list_all}
+use Rattle.std.proofs.lemmas.Iterator.{YieldsList-from_slice}
+use Rattle.std.proofs.lemmas.Iterator.Search.{all_from_yields_List}
+use Rattle.sheets.specs.Change.{good_change}
+use Rattle.sheets.proofs.Passing.{good-all}
 use Rattle.sheets.proofs.change.good_changes.Goals as goal
 
-pub loop-i-init : goal.loop-i-init
-loop-i-init c = (omega arith, sym (good_from-start _ _))
-
-pub returns-then-not-good_change : goal.returns-then-not-good_change
-returns-then-not-good_change c =
-    let l = c.loop-i in
-    sym (l.invariant.1 ∙ good_from-bad _ _ l.i c.loop-i-test.true (sym c.good_change.ensures ∙ c.if-not-good_change.true))
-
-pub loop-i-preserved : goal.loop-i-preserved
-loop-i-preserved c =
-    let l = c.loop-i in
-    (omega arith, l.invariant.1 ∙ good_from-pass _ _ l.i c.loop-i-test.true (sym c.good_change.ensures ∙ c.if-not-good_change.false))
-
 pub returns : goal.returns
-returns c = sym (c.loop-i.invariant.1 ∙ good_from-end _ _ _ c.loop-i-test.false)
+returns c =
+    all_from_yields_List good_change _ _ _ c.all.ensures.ran (YieldsList-from_slice c.as_chunks.result.0.now cc) (λ x r q k. search (rules, tests))
+    ∙ ap (list_all good_change) c.as_chunks.ensures.front
+    ∙ good-all (length c.args.list.now / 32) c.args.list.now

@@ -1,11 +1,6 @@
 -- `sheets::read::check_sheet` meets its contract. The invariant is `Scanned`: the blocks from i on decide 32, and with what was noted they decide 33.
-use Prim.Native.Nat.{◌-◌, ◌/◌}
-use lib.ListN.{length}
 use Rattle.sheets.proofs.Reading.{Scanned}
 use Rattle.sheets.proofs.read.check_sheet.Given as goal
 
 abbrev pub invariant-loop-i : goal.invariant-loop-i
 invariant-loop-i l = Scanned l.sheet l.good l.i
-
-abbrev pub decreases-loop-i : goal.decreases-loop-i
-decreases-loop-i l = length l.sheet / 512 - l.i

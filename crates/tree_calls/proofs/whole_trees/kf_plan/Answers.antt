@@ -1,10 +1,15 @@
 -- `tree_calls::whole_trees::kf_plan` meets its contract.
-use native.Mathlib.Omega.{arith}
-use Rattle.tree_calls.proofs.TreeCalls.{plan-done, plan-refused}
+use mathlib.Core.Path.{◌∙◌}
+use Rattle.tree_calls.proofs.TreeCalls.{places-stored, places-kept, plan-said}
 use Rattle.tree_calls.proofs.whole_trees.kf_plan.Goals as goal
-use Rattle.tree_calls.proofs.whole_trees.kf_plan.Goals.{else-answer-eq0, then-answer-eq0}
+use Rattle.tree_calls.proofs.whole_trees.kf_plan.Goals.{in-Ok, in_default}
 
 pub returns : goal.returns
 returns c =
-    let a = c.args in
-    elim c.if-answer-eq0.branch [ then-answer-eq0 w ↦ plan-done a.records a.levels.now c.geometry-g.ensures c.tree_kind-tree.ensures c.plan-planned.ensures c.planned_answer-answer.ensures (c.say.ensures.number, c.say.ensures.figures) (omega arith) _ w.levels-is | else-answer-eq0 w ↦ plan-refused a.records a.levels.now c.geometry-g.ensures c.tree_kind-tree.ensures c.plan-planned.ensures c.planned_answer-answer.ensures (c.say.ensures.number, c.say.ensures.figures) (omega arith) _ w.levels-is ]
+    let levels = c.args.levels.now in
+    plan-said c.args.records c.plan-planned.result levels _ c.geometry-g.ensures c.tree_kind-tree.ensures c.plan-planned.ensures c.answer_of-answer.ensures
+    (c.say.ensures.number, c.say.ensures.figures)
+    (elim c.match-planned.branch [
+      | in-Ok w ↦ w.levels-is ∙ places-stored w.in-Ok.p levels w.in-Ok.ensures
+      | in_default w ↦ w.levels-is ∙ places-kept w.in_default.field-0 levels w.in_default.ensures
+    ])

@@ -5,5 +5,5 @@ use Rattle.tree_calls.proofs.whole_trees.kf_walk_linked.Goals as goal
 pub returns : goal.returns
 returns c =
     let a = c.args in
-    linking-said a.image.now a.root a.levels c.geometry-g.ensures c.tree_kind-tree.ensures c.walk_linked-linking.ensures c.yes_figure.ensures
-    c.walked_answer.ensures (c.say.ensures.number, c.say.ensures.figures)
+    linking-said a.image.now a.root a.levels c.geometry-g.ensures c.tree_kind-tree.ensures c.walk_linked-linking.ensures
+    c.linking_answer.ensures (c.say.ensures.number, c.say.ensures.figures)

@@ -1,38 +1,28 @@
 -- `trees::build::first` meets its contract. The invariant: the record under block `at` of level l is the one asked for.
-use Prim.Native.Nat.{ℕ, ◌-◌, ◌<◌, ◌≤◌}
-use mathlib.Core.Path.{◌≡◌, refl, sym, ap, ◌∙◌, subst}
+use Prim.Native.Nat.{ℕ, ◌+◌, ◌-◌, ◌<◌, ◌≤◌}
+use mathlib.Core.Path.{◌≡◌, sym, ap, ◌∙◌, subst}
 use native.Mathlib.Omega.{arith}
 use lib.ListN.{get_or}
-use Rattle.trees.specs.Plan.{first_of}
+use Rattle.trees.specs.Plan.{first_of, start_of}
 use Rattle.trees.proofs.Going.{first_step, first-end}
 use Rattle.trees.proofs.build.first.Goals as goal
-
-pub loop-l-init : goal.loop-l-init
-loop-l-init c = (refl, c.requires.1, omega arith)
-
-pub bounds-levels-l : goal.bounds-levels-l
-bounds-levels-l c = omega (arith, c.requires.0.inside)
-
-pub bounds-levels-l-in-loop-l : goal.bounds-levels-l-in-loop-l
-bounds-levels-l-in-loop-l c = omega (arith, c.requires.0.inside)
 
 pub start-at-requires : goal.start-at-requires
 start-at-requires c =
     let l = c.loop-l in
-    (c.requires.0.some l.l l.invariant.2, l.invariant.1)
+    let e : l.l - 1 + 1 ≡ l.l = omega (arith, c.loop-l-test.true) in
+    rw e (c.requires.0.some l.l l.invariant.2, l.invariant.1)
 
 pub loop-l-preserved : goal.loop-l-preserved
 loop-l-preserved c =
     let a = c.args in
     let l = c.loop-l in
-    let h : 0 < l.l = c.loop-l-test.true in (
-      ap (first_of a.records a.levels.now (l.l - 1)) c.start-at.ensures.0 ∙ sym (first_step a.records a.levels.now l.l l.at h) ∙ l.invariant.0,
+    let h : 0 < l.l = c.loop-l-test.true in
+    let e : l.l - 1 + 1 ≡ l.l = omega arith in (
+      ap (first_of a.records a.levels.now (l.l - 1)) (c.start-at.ensures.0 ∙ ap (λ (x : ℕ). start_of (get_or a.levels.now (l.l - 1) 0) (get_or a.levels.now x 0) l.at) e) ∙ sym (first_step a.records a.levels.now l.l l.at h) ∙ l.invariant.0,
       c.start-at.ensures.1,
       omega (arith, l.invariant.2),
     )
-
-pub bounds-levels-0 : goal.bounds-levels-0
-bounds-levels-0 c = omega (arith, c.requires.0.inside)
 
 pub start-requires : goal.start-requires
 start-requires c =

@@ -7,6 +7,3 @@ use Rattle.trees.proofs.build.first.Given as goal
 
 abbrev pub invariant-loop-l : goal.invariant-loop-l
 invariant-loop-l l = (first_of l.records l.levels l.l l.at ≡ first_of l.records l.levels l.level l.i) × (l.at ≤ get_or l.levels l.l 0) × (l.l ≤ l.level)
-
-abbrev pub decreases-loop-l : goal.decreases-loop-l
-decreases-loop-l l = l.l

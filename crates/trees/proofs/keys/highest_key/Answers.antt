@@ -1,23 +1,13 @@
 -- `trees::keys::highest_key` meets its contract. The invariant: the greatest of the key so far and of the records from i on is that of all.
 use mathlib.Core.Path.{sym, ap, ◌∙◌}
 use native.Mathlib.Omega.{arith}
-use Rattle.codec.specs.Rmaps.{good}
 use Rattle.trees.specs.Keys.{high_key, greater}
 use Rattle.trees.proofs.KeyLaws.{highest-first, greatest-next, greatest-end}
 use Rattle.trees.proofs.keys.highest_key.Goals as goal
 
-pub high_key-k-requires : goal.high_key-k-requires
-high_key-k-requires c = ap good c.decode.ensures ∙ c.requires.2 c.args.from (omega arith)
-
 pub loop-i-init : goal.loop-i-init
 loop-i-init c = let a = c.args in
     (omega arith, omega arith, sym (highest-first a.list.now a.from a.to c.high_key-k.result c.requires.0 c.requires.1 (c.high_key-k.ensures ∙ ap high_key c.decode.ensures)))
-
-pub high_key-requires : goal.high_key-requires
-high_key-requires c = ap good c.decode-in-loop-i.ensures ∙ c.requires.2 c.loop-i.i (omega arith)
-
-pub greater_key-k-requires : goal.greater_key-k-requires
-greater_key-k-requires c = tt
 
 pub loop-i-preserved : goal.loop-i-preserved
 loop-i-preserved c = let a = c.args in

@@ -1,56 +1,71 @@
 use native.Mathlib.Omega.{arith}
-use mathlib.Core.Path.{◌≡◌, refl, sym, ap, ◌∙◌}
-use mathlib.Core.List.{List, [], ◌∷◌}
-use Prim.Native.Nat.{ℕ, ◌+◌, ◌<◌, ◌≤◌}
+use mathlib.Core.Path.{◌≡◌, sym, ap, ◌∙◌}
+use mathlib.Core.List.{List, [], ◌∷◌, ◌++◌, append-nil}
+use Prim.Native.Nat.{ℕ, ◌+◌, ◌/◌, ◌%◌, ◌^◌, ◌<◌}
 use lib.ListN.{length, get_or, take, length-append}
+use Rattle.std.proofs.lemmas.List.{take_all}
 use Rattle.walks.specs.Walk.{at_level}
 use Rattle.walks.specs.OneVisit.{seen_of}
 use Rattle.walks.specs.Inner.WalkState.{level_in}
 use Rattle.codec.specs.Bytes.{with_bytes}
-use Rattle.codec.proofs.Stores.{with_bytes-none, with_bytes-then}
-use Rattle.walks.proofs.LevelLaws.{levels-more, levels-mono}
+use Rattle.codec.proofs.Stores.{with_bytes-none, with_bytes-more}
+use Rattle.walks.proofs.LevelLaws.{levels-more, levels-within, level-this, level-other}
 use Rattle.walks.proofs.by_level.gather.Goals as goal
+use Rattle.walks.proofs.by_level.gather.Goals.{then-place-level, else-place-level, Then-place-level}
 
-pub loop-i-init : goal.loop-i-init
+pub loop-place-init : goal.loop-place-init
 unfolding at_level seen_of
-loop-i-init c =
+loop-place-init c =
     let a = c.args in
-    (omega arith, refl, omega arith, sym (with_bytes-none a.list.now a.at))
+    (omega arith, sym (with_bytes-none a.list.now a.at))
 
-pub keep-k-requires : goal.keep-k-requires
-keep-k-requires c =
-    let l = c.loop-i in
-    let a = c.args in
-    let w = a.scratch.now in
-    let h : l.i < length w = omega arith in
-    let e = ap length (levels-more a.level w l.i h) ∙ length-append (level_in a.level (take l.i w)) (level_in a.level (get_or w l.i 0 ∷ [])) in
-    omega (arith, e, levels-mono a.level w (l.i + 1) a.n (omega arith), c.requires.1)
+-- one block more, and how many there are then
+more : (level : ℕ) (s : List ℕ) (i : ℕ) → i < length s → get_or s i 0 / 2 ^ 32 ≡ level → level_in level (take (i + 1) s) ≡ level_in level (take i s) ++ get_or s i 0 % 2 ^ 32 ∷ []
+more level s i h e = levels-more level s i h ∙ ap (λ (l : List ℕ). level_in level (take i s) ++ l) (level-this level (get_or s i 0) e)
 
-pub loop-i-preserved : goal.loop-i-preserved
-loop-i-preserved c =
-    let l = c.loop-i in
+-- a place of the list is left for it
+room : (c : Then-place-level) → c.loop-place.k < length c.args.list.now
+room c =
     let a = c.args in
-    let w = a.scratch.now in
-    let h : l.i < length w = omega arith in
-    let this = level_in a.level (get_or w l.i 0 ∷ []) in
-    let so = level_in a.level (take l.i w) in
-    let m = levels-more a.level w l.i h in
-    let e : length (level_in a.level (take (l.i + 1) w)) ≡ length so + length this = ap length m ∙ length-append so this in
-    let q : l.k ≤ length a.list.now = omega (arith, levels-mono a.level w l.i a.n (omega arith), c.requires.1) in (
-      omega arith,
-      c.keep-k.auto.list ∙ l.invariant.1,
-      omega (arith, c.keep-k.ensures.0, e),
-      c.keep-k.ensures.1
-          ∙ ap (λ (x : List ℕ). with_bytes x l.k this) l.invariant.3
-          ∙ with_bytes-then a.list.now so this a.at l.k l.invariant.2 q
-          ∙ ap (with_bytes a.list.now a.at) (sym m),
-    )
+    let i = c.loop-place.place-index in
+    let m = more a.level a.seen.now i (omega arith) c.if-place-level.true in
+    omega (arith, ap length m ∙ length-append (level_in a.level (take i a.seen.now)) _, levels-within a.level a.seen.now (i + 1), c.requires)
+
+pub offset_bounds-list-k : goal.offset_bounds-list-k
+offset_bounds-list-k c = let h = room (goal.at.offset_bounds-list-k c).Then-place-level in omega arith
+
+pub bounds-list-k : goal.bounds-list-k
+bounds-list-k c = let h = room (goal.at.bounds-list-k c).Then-place-level in omega arith
+
+pub overflow_add-k : goal.overflow_add-k
+overflow_add-k c = let h = room (goal.at.overflow_add-k c).Then-place-level in omega arith
+
+pub loop-place-preserved : goal.loop-place-preserved
+loop-place-preserved c =
+    let l = c.loop-place in
+    let a = c.args in
+    let i = l.place-index in
+    let place = get_or a.seen.now i 0 in
+    let so = level_in a.level (take i a.seen.now) in
+    elim c.if-place-level.branch [
+      | then-place-level w ↦ (
+          let m = more a.level a.seen.now i (omega arith) w.if-place-level.true in
+          let n = ap length m ∙ length-append so _ in
+          let h : l.k < length a.list.now = omega (arith, n, levels-within a.level a.seen.now (i + 1), c.requires) in (
+            omega (arith, w.k-is, n),
+            w.list-is
+                ∙ with_bytes-more a.list.now l.list so a.at l.k (place % 2 ^ 32) l.invariant.0 h l.invariant.1
+                ∙ ap (with_bytes a.list.now a.at) (sym m),
+          ))
+      | else-place-level w ↦ (
+          let m : level_in a.level (take (i + 1) a.seen.now) ≡ so =
+          levels-more a.level a.seen.now i (omega arith) ∙ ap (λ (x : List ℕ). so ++ x) (level-other a.level place w.if-place-level.false) ∙ append-nil so in
+          rw (m, w.k-is, w.list-is) l.invariant)
+    ]
 
 pub returns : goal.returns
 returns c =
-    let l = c.loop-i in
-    let a = c.args in
-    let e : l.i ≡ a.n = omega arith in (
-      l.invariant.2 ∙ ap (λ (x : ℕ). a.at + length (level_in a.level (take x a.scratch.now))) e,
-      l.invariant.3 ∙ ap (λ (x : ℕ). with_bytes a.list.now a.at (level_in a.level (take x a.scratch.now))) e,
-    )
+    let l = c.loop-place in
+    let w = c.args.seen.now in
+    let e : take l.place-index w ≡ w = take_all l.place-index w (omega arith) in
+    rw e at l.invariant

@@ -1,21 +1,28 @@
 use native.Mathlib.Omega.{arith}
-use mathlib.Core.Path.{refl, sym}
+use mathlib.Core.Path.{sym}
 use mathlib.Core.List.{[]}
 use lib.ListN.{length}
 use Rattle.codec.proofs.Parts.{with_bytes-one}
 use Rattle.walks.proofs.WalkLaws.{step-full, step-no-room, step-next}
 use Rattle.walks.proofs.visit.enter.Goals as goal
+use Rattle.walks.proofs.visit.enter.Goals.{then-places-visits-via-then-places-visits, then-places-visits-via-else-places-visits+then-out-at}
 
-pub returns-then-places-visits : goal.returns-then-places-visits
-returns-then-places-visits c =
+pub returns-then-places-visits-clause-result_value :
+    goal.returns-then-places-visits-clause-result_value
+returns-then-places-visits-clause-result_value c =
     let a = c.args in
-    record { result_value = sym (step-full a.places (length a.out.now) a.c [] a.bytes.now c.if-places-visits.true); scratch_after = (refl, refl); beside = tt }
+    rw c.stop.ensures
+    (elim c.then-places-visits.branch [
+      | then-places-visits-via-then-places-visits w ↦ sym (step-full a.places (length a.out.now) a.c [] a.bytes.now w.if-places-visits.true)
+      | then-places-visits-via-else-places-visits+then-out-at w ↦ sym (step-no-room a.places (length a.out.now) a.c [] a.bytes.now w.if-out-at.true)
+    ])
 
-pub returns-then-out-at : goal.returns-then-out-at
-returns-then-out-at c =
+pub returns-clause-result_value : goal.returns-clause-result_value
+returns-clause-result_value c =
     let a = c.args in
-    record { result_value = sym (step-no-room a.places (length a.out.now) a.c [] a.bytes.now c.if-out-at.true); scratch_after = (refl, refl); beside = tt }
+    sym (step-next a.places (length a.out.now) a.c [] a.bytes.now c.if-places-visits.false c.if-out-at.false)
 
-pub returns : goal.returns
-returns c =
-    let a = c.args in record { result_value = sym (step-next a.places (length a.out.now) a.c [] a.bytes.now c.if-places-visits.false c.if-out-at.false); scratch_after = (with_bytes-one a.scratch.now a.c.visits a.place (omega (arith, c.if-places-visits.false, c.requires.0)), c.copy.ensures); beside = (refl, refl) }
+pub returns-clause-scratch_after : goal.returns-clause-scratch_after
+returns-clause-scratch_after c =
+    let a = c.args in
+    (with_bytes-one a.scratch.now a.c.visits a.place (omega arith), c.copy.ensures)

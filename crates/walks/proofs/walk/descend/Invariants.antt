@@ -12,13 +12,20 @@ use Rattle.walks.specs.Underway.{rest_of, Walking}
 use Rattle.walks.proofs.LinkLaws.{Chained}
 use Rattle.walks.proofs.walk.descend.Given as goal
 
-abbrev pub invariant-loop-g : goal.invariant-loop-g
-invariant-loop-g l =
-    Walking (look_in (shape_of l.g l.kind) l.image) l.limit l.places (length l.initial.out) (record_len l.kind) (walk_in (shape_of l.g l.kind) l.image l.root l.levels l.limit l.places (length l.initial.out)) l.initial.out l.scratch l.out l.c.visits l.c.bytes
-    (visit_of l.block l.level ∷ path_of (due_in every (shape_of l.g l.kind) l.image) l.stack (l.level + 1) (l.levels - (l.level + 1)))
-    × Opened (shape_of l.g l.kind) l.image l.stack (l.level + 1) l.levels × (l.level < l.levels) × (l.block < 2 ^ 32) × (length l.stack ≡ length l.initial.stack) × (length l.scratch ≡ length l.initial.scratch)
-    × Chained (leftsib_of l.g.blocksize l.image) (rightsib_of l.g.blocksize l.image) l.levels (visits (walk_in (shape_of l.g l.kind) l.image l.root l.levels l.limit l.places (length l.initial.out)))
-    (visits (rest_of (look_in (shape_of l.g l.kind) l.image) l.limit l.places (length l.initial.out) l.c.visits l.c.bytes (visit_of l.block l.level ∷ path_of (due_in every (shape_of l.g l.kind) l.image) l.stack (l.level + 1) (l.levels - (l.level + 1))))) l.before l.named l.linked
-
-abbrev pub decreases-loop-g : goal.decreases-loop-g
-decreases-loop-g l = l.limit - l.c.visits
+-- the walk so far; the pairs above the block that is due; that block; the links so far
+abbrev pub invariant-loop-visits : goal.invariant-loop-visits
+invariant-loop-visits l =
+    let sh = shape_of l.tree.g l.tree.kind in
+    let image = l.tree.image.now in
+    let room = length l.initial.out in
+    let total = walk_in sh image l.root l.levels l.limit l.places room in
+    let due = visit_of l.due.block l.due.level ∷ path_of (due_in every sh image) l.stack (l.due.level + 1) (l.levels - (l.due.level + 1)) in
+    record {
+      walks : Walking (look_in sh image) l.limit l.places room (record_len l.tree.kind) total l.initial.out l.scratch l.out l.c.visits l.c.bytes due;
+      counted : l.c.visits ≡ l.visits;
+      opened : Opened sh image l.stack (l.due.level + 1) l.levels;
+      under : l.due.level < l.levels;
+      small : l.due.block < 2 ^ 32;
+      linked : Chained (leftsib_of l.tree.g.blocksize image) (rightsib_of l.tree.g.blocksize image) l.levels (visits total)
+          (visits (rest_of (look_in sh image) l.limit l.places room l.c.visits l.c.bytes due)) l.links.held l.links.linked;
+    }

@@ -1,35 +1,15 @@
 -- `blocks::geometry::Geometry::is_ok` meets its contract: the quotient decides the product (`product64`).
-use borrow.Author.Rules.{rules}
 use native.Mathlib.Omega.{arith}
-use Rattle.blocks.specs.Geometry.{is_version, is_block_size, linear_of, geometry_ok}
 use mathlib.Core.Path.{◌≡◌, sym, ◌∙◌}
-use mathlib.Core.Bool.{true, false}
-use Rattle.blocks.proofs.Laws.{size-within, product32, product64}
+use mathlib.Core.Bool.{true}
+use Rattle.std.proofs.lemmas.Grind.{common_steps}
+use Rattle.blocks.specs.Geometry.{is_version, is_block_size, linear_of, geometry_ok}
+use Rattle.blocks.proofs.Laws.{size-within, product64}
 use Rattle.blocks.proofs.geometry.Geometry.is_ok.Goals as goal
 
 pub returns-then-not-is_version : goal.returns-then-not-is_version
 unfolding geometry_ok
-returns-then-not-is_version c =
-    let v : is_version c.args.self.version ≡ false = sym c.is_version.ensures ∙ c.if-not-is_version.true in
-    rw v
-
-pub returns-then-not-is_block_size : goal.returns-then-not-is_block_size
-unfolding geometry_ok
-returns-then-not-is_block_size c =
-    let g = c.args.self in
-    let v : is_version g.version ≡ true = sym c.is_version.ensures ∙ c.if-not-is_version.false in
-    let s : is_block_size g.blocksize ≡ false = sym c.is_block_size.ensures ∙ c.if-not-is_block_size.true in
-    rw (v, s)
-
-pub overflow_mul-last : goal.overflow_mul-last
-overflow_mul-last c =
-    let g = c.args.self in
-    omega (arith, product32 g.agno g.agblocks (search rules) (search rules))
-
-pub overflow_add-last : goal.overflow_add-last
-overflow_add-last c =
-    let g = c.args.self in
-    omega (arith, product32 g.agno g.agblocks (search rules) (search rules))
+returns-then-not-is_version c = grind (arith, common_steps)
 
 pub nonzero_div-result : goal.nonzero_div-result
 nonzero_div-result c =
@@ -43,4 +23,4 @@ returns c =
     let g = c.args.self in
     let v : is_version g.version ≡ true = sym c.is_version.ensures ∙ c.if-not-is_version.false in
     let s : is_block_size g.blocksize ≡ true = sym c.is_block_size.ensures ∙ c.if-not-is_block_size.false in
-    rw (v, s) (product64 (linear_of g 4294967295) g.blocksize (omega (arith, size-within g.blocksize s)) _ (omega arith))
+    rw (v, s) (product64 (linear_of g 4294967295) g.blocksize (omega (arith, size-within g.blocksize s)) _ c.linear.ensures)

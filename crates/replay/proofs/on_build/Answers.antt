@@ -1,8 +1,0 @@
--- `replay::on_build` meets its contract.
-use native.Mathlib.Omega.{arith}
-use mathlib.Core.Path.{sym}
-use lib.Seq.{length-take-le}
-use Rattle.replay.proofs.on_build.Goals as goal
-
-pub slice_bounds-numbers-end-2 : goal.slice_bounds-numbers-end-2
-slice_bounds-numbers-end-2 c = sym (length-take-le _ _ (omega arith))

@@ -1,5 +1,0 @@
--- `tree_calls::list_checks::kf_check_by_block` meets its contract.
-use Rattle.tree_calls.proofs.list_checks.kf_check_by_block.Goals as goal
-
-pub returns : goal.returns
-returns c = rw (← c.check_order.ensures) c.list_number.ensures
