@@ -52,8 +52,8 @@ fn ready(old: &Ordered<'_>, front: usize, first: Part, second: Part, rest: usize
     }
 }
 
-// Question 23 of `insert`, and its splice. Here and in the two below the extent is good, by a clause: a type of good extents would be taken apart in all three, since
-// what they promise is of the extent.
+// Question 23 of `insert`, and its splice. Here and in the two below the extent is good, by a clause: a type of good extents would be taken apart in all three,
+// since what they promise is of the extent.
 fn place_insert(old: &Ordered<'_>, x: Rmap, s: Scan) -> Result<Splice, EditRefusal>
     requires { (good x ≡ true) × Finds Insert x (records_of rmaps old.now.list.now) s }
     ensures { PreparedIs Insert old.now.list.now x result }

@@ -25,7 +25,8 @@ impl<'a> Search<'a> {
     // Does one of the numbers lie between the starts of child i's low and high key? All numbers are asked about every child.
     fn kept(&self, block: u32, i: usize) -> bool
         requires { ((block + 1) * self.now.tree.g.blocksize ≤ length self.now.tree.image.now) × (i < per_node (shape_of self.now.tree.g kind.Rmap)) }
-        ensures { result ≡ keeps self.now.asked.numbers.now (shape_of self.now.tree.g kind.Rmap) (block_in self.now.tree.g.blocksize self.now.tree.image.now block) i }
+        ensures { result ≡ keeps self.now.asked.numbers.now (shape_of self.now.tree.g kind.Rmap)
+            (block_in self.now.tree.g.blocksize self.now.tree.image.now block) i }
     {
         let TreeImage { g, image, .. } = self.tree;
         let at = (block as usize) * (g.blocksize as usize);
@@ -38,7 +39,8 @@ impl<'a> Search<'a> {
     // The next block due on the pairs from level `low` up: the walk's own, without the children that are skipped.
     pub(crate) fn next_kept(&self, pairs: &mut [u32], low: u32, levels: u32) -> Option<Due>
         requires { Opened (shape_of self.now.tree.g kind.Rmap) self.now.tree.image.now pairs.old low levels }
-        ensures { TakenIs (due_in (keeps self.now.asked.numbers.now (shape_of self.now.tree.g kind.Rmap)) (shape_of self.now.tree.g kind.Rmap) self.now.tree.image.now)
+        ensures { TakenIs
+            (due_in (keeps self.now.asked.numbers.now (shape_of self.now.tree.g kind.Rmap)) (shape_of self.now.tree.g kind.Rmap) self.now.tree.image.now)
             (shape_of self.now.tree.g kind.Rmap) self.now.tree.image.now result low levels pairs.old pairs.new }
     {
         let mut from = low;

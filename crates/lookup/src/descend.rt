@@ -32,8 +32,8 @@ impl<'a> Search<'a> {
             × Room 8192 self.now.asked.numbers.now (summed (length self.now.asked.numbers.now) answers.old) }
         ensures result_value { looked_outcome result ≡ header_in self.now.tree.g kind.Rmap self.now.tree.image.now (visit_of block level) }
         ensures answers_after { summed (length self.now.asked.numbers.now) answers.new
-            ≡ tallied (records_of rmaps (bytes_found (look_in (shape_of self.now.tree.g kind.Rmap) self.now.tree.image.now (visit_of block level)))) self.now.asked.numbers.now
-            (summed (length self.now.asked.numbers.now) answers.old) }
+            ≡ tallied (records_of rmaps (bytes_found (look_in (shape_of self.now.tree.g kind.Rmap) self.now.tree.image.now (visit_of block level))))
+            self.now.asked.numbers.now (summed (length self.now.asked.numbers.now) answers.old) }
     {
         let TreeImage { g, image, .. } = self.tree;
         let header = look(g, TreeKind::Rmap, image, AgBlock(block), level)?;
@@ -58,7 +58,8 @@ impl<'a> Search<'a> {
         requires zeroed { Zeroed self.now.asked.numbers.now answers.old }
         ensures result_value { looked_up_report result
             ≡ visits_report (done (descent_of self.now.asked.numbers.now (shape_of self.now.tree.g kind.Rmap) self.now.tree.image.now root levels limit)) }
-        ensures added { Added result (records_of rmaps (records (descent_of self.now.asked.numbers.now (shape_of self.now.tree.g kind.Rmap) self.now.tree.image.now root levels limit)))
+        ensures added { Added result (records_of rmaps (records
+            (descent_of self.now.asked.numbers.now (shape_of self.now.tree.g kind.Rmap) self.now.tree.image.now root levels limit)))
             self.now.asked.numbers.now answers.old answers.new }
     {
         let mut due = Due {

@@ -1,5 +1,5 @@
 // Sheets written.
-ghost use Rattle.std.specs.Prelude.{◌≡◌, ◌+◌, ◌-◌, ◌*◌, ◌≤◌, min, length, replicate};
+ghost use Rattle.std.specs.Prelude.{◌≡◌, ◌+◌, ◌-◌, ◌*◌, ◌≤◌, min, length};
 ghost use Rattle.codec.specs.Bytes.{with_bytes};
 ghost use Rattle.sheets.specs.Layout.{block_len, place_at, changes_at, change_len, part_len, max_changes};
 ghost use Rattle.sheets.specs.Change.{good_list};

@@ -2,7 +2,7 @@
 // 64 bytes; 0xEE was there before. `stdout` was worked out apart from this code.
 #![tactic(auto)]
 
-ghost use Rattle.std.specs.Prelude.{◌≡◌, ◌+◌, ◌≤◌, length};
+ghost use Rattle.std.specs.Prelude.{◌≡◌, ◌+◌, length};
 
 use codec::crc::crc32c;
 use codec::endian::{put_be32, put_le32};

@@ -35,6 +35,7 @@ pub fn words(b: &[u8]) -> usize
 }
 
 // Prints the number of a refusal and, where it has values, what was expected and what was found. Says the number.
+// No `Display`: what the programs write to, the kit's `io`, takes bytes and numbers alone.
 pub fn show_told(t: Told) -> u32
     ensures { result ≡ t.number }
 {

@@ -1,8 +1,8 @@
 // A fresh tree: the blocks of a list of records, written into lent memory one after another, leaves first and root last.
-ghost use Rattle.std.specs.Prelude.{◌≡◌, true, ◌+◌, ◌-◌, ◌*◌, ◌/◌, ◌≤◌, ◌<◌, length, get_or, drop};
+ghost use Rattle.std.specs.Prelude.{◌≡◌, ◌+◌, ◌-◌, ◌*◌, ◌/◌, ◌≤◌, ◌<◌, length, get_or, drop};
 ghost use Rattle.codec.specs.Bytes.{bytes_at, with_bytes};
-ghost use Rattle.blocks.specs.Geometry.{geometry_ok, null_ag_block};
-ghost use Rattle.blocks.specs.Tree.{header_len, has_tree, record_len, keys_len};
+ghost use Rattle.blocks.specs.Geometry.{null_ag_block};
+ghost use Rattle.blocks.specs.Tree.{header_len, record_len, keys_len};
 ghost use Rattle.blocks.specs.Stamp.{stamped};
 ghost use Rattle.walks.specs.Links.{next};
 ghost use Rattle.trees.specs.Plan.{sum, shares, start_of, first_of};
@@ -205,7 +205,8 @@ impl<'a> Source<'a> {
 
     // The keys of some children of a level, from the `child`-th on.
     fn put_all_keys(&self, level: usize, child: usize, below: &[u32], b: &mut [u8], at: usize)
-        requires { Children self.now.kind self.now.list.now self.now.levels.now level child below.now × (at + length below.now * keys_len self.now.kind ≤ length b.old) }
+        requires { Children self.now.kind self.now.list.now self.now.levels.now level child below.now
+            × (at + length below.now * keys_len self.now.kind ≤ length b.old) }
         ensures { b.new ≡ with_bytes b.old at (keys_of (keys_under self.now.kind)
             (level_children self.now.kind self.now.list.now self.now.levels.now level child below.now)) }
     {

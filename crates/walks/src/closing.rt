@@ -37,7 +37,7 @@ pub fn wipe(scratch: &mut [u64], blocks: &mut [u32], out: &mut [u8])
     ensures { (scratch.new ≡ zeros scratch.old) × (blocks.new ≡ zeros blocks.old)
         × (out.new ≡ zeros out.old) }
 {
-    scratch.fill(0);
+    scratch.fill(0); // nor in this one
     blocks.fill(0);
     out.fill(0);
 }

@@ -20,6 +20,7 @@ pub struct TreeImage<'a> {
 }
 
 impl<'a> TreeImage<'a> {
+    // Of a geometry that passed 1.
     pub fn new(g: Geometry, kind: TreeKind, image: &'a [u8]) -> TreeImage<'a>
         requires { geometry_ok g ≡ true }
         ensures { (result.g ≡ g) × (result.kind ≡ kind) × (result.image.now ≡ image.now) }

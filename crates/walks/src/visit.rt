@@ -110,7 +110,8 @@ impl<'a> TreeImage<'a> {
         c: Count,
     ) -> Step
         requires { Fitting scratch.old out.old places c }
-        ensures result_value { step_outcome result ≡ step_of places (length out.old) c (look_in (shape_of self.now.g self.now.kind) self.now.image.now (visit_of block level)) }
+        ensures result_value { step_outcome result
+            ≡ step_of places (length out.old) c (look_in (shape_of self.now.g self.now.kind) self.now.image.now (visit_of block level)) }
         ensures wrote { Wrote (step_outcome result) (visit_of block level) (look_in (shape_of self.now.g self.now.kind) self.now.image.now (visit_of block level)) c
             scratch.old scratch.new out.old out.new }
         ensures beside { Beside result (leftsib_of self.now.g.blocksize self.now.image.now block) (rightsib_of self.now.g.blocksize self.now.image.now block) }
