@@ -77,7 +77,16 @@ pub(crate) fn unchanged(w: Carried, counts: &[u8], i: usize, edit: CountEdit) ->
     }
     let stop = w.prev.startblock as u64 + w.prev.blockcount as u64;
     let high = behind(w.gap, edit.end);
-    run_end(counts, i, stop, w.joiner.owners, edit.start, high)
+    let owners = w.joiner.owners;
+    if counts.len() / REFCOUNT_LEN <= i {
+        return i;
+    }
+    // one that joins is seen here: a call for each takes a third more where all join
+    let r = decode(counts, i * REFCOUNT_LEN);
+    if joins(r.startblock as u64, r.refcount, stop, owners) {
+        return i;
+    }
+    run_end(counts, i, stop, owners, edit.start, high)
 }
 
 // Puts bytes of the old counts at a place of `new`, in a pass that writes.

@@ -1,7 +1,7 @@
 // One pass over a reverse map: question 20, the record that a letting go cuts, and the first record over a block other than that one.
 ghost use Rattle.std.specs.Prelude.{if◌then◌else◌, ◌≡◌, ◌&&◌, true, nat_eq, nat_lt};
 ghost use Rattle.codec.specs.Records.{records_of, rmaps};
-ghost use Rattle.codec.specs.Rmaps.{good};
+ghost use Rattle.codec.specs.Rmaps.{good, follows};
 ghost use Rattle.lists.specs.RmapEdits.{contains, lines_up};
 ghost use Rattle.reasons.specs.Why.{map_over};
 ghost use Rattle.lists.specs.Answer.{edited_outcome};
@@ -55,6 +55,17 @@ fn noted(s: Found, x: Rmap, block: u32, r: Rmap, i: usize, n: usize) -> Found
     }
 }
 
+// Is r good, and may it stand behind prev? Three tests tell it of most records: they start behind prev, their start and count are small, and bit 53 of their
+// offset is clear. By the tests of `passes` alone an explanation took longer than the whole letting go.
+#[tactic(auto, unfolding(codec::specs::Rmaps::good, codec::specs::Rmaps::follows, codec::specs::Rmaps::before))]
+fn may_stand(prev: Rmap, r: Rmap) -> bool
+    ensures { result ≡ (good r && follows prev r) }
+{
+    let small = (r.startblock < 0x4000_0000) & (0 < r.blockcount) & (r.blockcount <= 0x4000_0000);
+    prev.startblock < r.startblock && small && r.offset / 0x20_0000_0000_0000 % 2 == 0
+        || passes(prev, r)
+}
+
 // The pass: nothing where the list is not in order. It is not the pass of `lists`, which finds other things of records that need not lie over a block: a pass by
 // closures of both would be no plainer.
 fn scan(map: &[u8], x: Rmap, block: u32) -> Option<Found>
@@ -75,7 +86,7 @@ fn scan(map: &[u8], x: Rmap, block: u32) -> Option<Found>
     };
     for i in 0..n {
         let r = decode(map, i * RMAP_LEN);
-        if !passes(prev, r) {
+        if !may_stand(prev, r) {
             return None;
         }
         s = noted(s, x, block, r, i, n);

@@ -12,16 +12,16 @@ use Rattle.reasons.proofs.scan.scan.Goals as goal
 pub loop-i-init : goal.loop-i-init
 loop-i-init c = (omega arith, refl, found-start _ _ c.args.map.now)
 
-pub returns-then-not-passes : goal.returns-then-not-passes
-returns-then-not-passes c =
+pub returns-then-not-may_stand : goal.returns-then-not-may_stand
+returns-then-not-may_stand c =
     let q = c.loop-i in
-    q.invariant.1 ∙ order-stops c.args.map.now q.i q.prev c.decode-r.result c.loop-i-test.true c.decode-r.ensures (sym c.passes.ensures ∙ c.if-not-passes.true)
+    q.invariant.1 ∙ order-stops c.args.map.now q.i q.prev c.decode-r.result c.loop-i-test.true c.decode-r.ensures (sym c.may_stand.ensures ∙ c.if-not-may_stand.true)
 
 pub noted-s-requires : goal.noted-s-requires
 noted-s-requires c =
     let q = c.loop-i in (
       found_within _ _ c.args.map.now q.i q.s q.invariant.2 q.invariant.0,
-      and_l (good c.decode-r.result) _ (sym c.passes.ensures ∙ c.if-not-passes.false),
+      and_l (good c.decode-r.result) _ (sym c.may_stand.ensures ∙ c.if-not-may_stand.false),
     )
 
 pub loop-i-preserved : goal.loop-i-preserved
@@ -30,7 +30,7 @@ loop-i-preserved c =
     let q = c.loop-i in
     let t = c.loop-i-test.true in (
       omega arith,
-      q.invariant.1 ∙ order-goes-on b q.i q.prev c.decode-r.result t c.decode-r.ensures (sym c.passes.ensures ∙ c.if-not-passes.false),
+      q.invariant.1 ∙ order-goes-on b q.i q.prev c.decode-r.result t c.decode-r.ensures (sym c.may_stand.ensures ∙ c.if-not-may_stand.false),
       found-next _ _ b q.i q.s q.invariant.2 c.decode-r.result _ t c.decode-r.ensures c.noted-s.ensures,
     )
 
