@@ -41,6 +41,12 @@ places-stored p levels is =
 pub places-kept : {o : Outcome (List ℕ)} (e : PlanRefusal) (levels : List ℕ) → PlanIs o (Err e) → levels ≡ places_after o levels
 places-kept e levels is = ap (λ (x : Outcome (List ℕ)). places_after x levels) is.outcome
 
+pub places-left : {o : Outcome (List ℕ)} (r : Result Planned PlanRefusal) (levels levels' : List ℕ)
+    → ((p : Planned) → r ≡ Ok p → levels' ≡ p.blocks) → ((e : PlanRefusal) → r ≡ Err e → levels' ≡ levels)
+    → PlanIs o r → levels' ≡ places_after o levels
+places-left (Ok p) levels levels' stored kept is = stored p refl ∙ places-stored p levels is
+places-left (Err e) levels levels' stored kept is = kept e refl ∙ places-kept e levels is
+
 -- the call of a plan, on the geometry and kind that the numbers stand for
 pub plan-said : {g g' : Geometry} {k k' : TreeKind} (n : ℕ) (p : Result Planned PlanRefusal) (levels levels' : List ℕ) {a r : ℕ} {figures said : List ℕ}
     → g ≡ g' → k ≡ k' → PlanIs (plan_outcome g k n) p

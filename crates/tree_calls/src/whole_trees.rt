@@ -1,8 +1,10 @@
 // Calls on whole trees.
-ghost use Rattle.std.specs.Prelude.{◌≡◌, length};
+ghost use Rattle.std.specs.Prelude.{◌≡◌, length, Ok, Err};
 ghost use Rattle.blocks.specs.Tree.{record_len};
 ghost use Rattle.trees.specs.BuildCall.{build_outcome};
 ghost use Rattle.trees.specs.PlanAnswer.{plan_outcome};
+ghost use Rattle.trees.specs.declared.plan.PlanRefusal.{PlanRefusal};
+ghost use Rattle.trees.specs.declared.plan.Planned.{Planned};
 ghost use Rattle.walks.specs.WalkCall.{walk_of, lent};
 ghost use Rattle.book.specs.Textbook.{textbook_of, lists};
 ghost use Rattle.lookup.specs.Lookup.{lookup_of};
@@ -18,8 +20,22 @@ use interface::answer::{answer_of, say};
 use interface::given::{geometry, tree_kind};
 use lookup::lookup::lookup;
 use trees::build::build;
-use trees::plan::plan;
+use trees::plan::{PlanRefusal, Planned, plan};
 use walks::walk::{walk, walk_linked};
+
+// The blocks of each level of an accepted plan go to the nine places; a refused one leaves these.
+fn put_places(planned: Result<Planned, PlanRefusal>, levels: &mut [u64; 9])
+    ensures stored { (p : Planned) → planned ≡ Ok p → levels.new ≡ p.blocks }
+    ensures kept { (r : PlanRefusal) → planned ≡ Err r → levels.new ≡ levels.old }
+{
+    match planned {
+        Ok(p) => {
+            let blocks = p.blocks;
+            *levels = blocks;
+        }
+        Err(_) => {}
+    }
+}
 
 // The blocks of each level of a tree of so many records, leaves first, and zeros after them: questions 1 and 16. A refusal leaves `levels` as
 // they were. The figures are the levels and the blocks of all of them.
@@ -46,10 +62,7 @@ pub extern "C" fn kf_plan(
     let tree = tree_kind(kind);
     let planned = plan(g, tree, records);
     let answer = answer_of(planned, plan_figures);
-    if let Ok(p) = planned {
-        let blocks = p.blocks;
-        *levels = blocks;
-    }
+    put_places(planned, levels);
     say(answer, said)
 }
 
