@@ -106,7 +106,7 @@ stands t c total o later k =
     let d = c.read_block in
     let look = look_in (shape_of a.tree.now.g a.tree.now.kind) a.tree.now.image.now in
     let due : (ℕ → List Visit) = due_in every (shape_of a.tree.now.g a.tree.now.kind) a.tree.now.image.now a.level a.node in
-    let e = child-next (shape_of a.tree.now.g a.tree.now.kind) a.tree.now.image.now a.node a.level l.i c.child-b.result (omega (arith, c.fan-n.ensures)) c.child-b.ensures in
+    let e = child-next (shape_of a.tree.now.g a.tree.now.kind) a.tree.now.image.now a.node a.level l.i c.child-b.result (omega (arith, c.fan-n.ensures)) (grind (arith, c.child-b.ensures)) in
     let w = rw e at l.invariant.1 total o later k in
     subst (λ (x : ℕ). Reached look a.limits x (record_len a.tree.now.kind) total o d.new.scratch d.new.out d.result (due (l.i + 1) ++ later)) l.auto.out
     (d.ensures.reads total o (due (l.i + 1) ++ later)

@@ -24,7 +24,5 @@ loop-word-preserved c =
 
 pub returns : goal.returns
 returns c =
-    let l = c.loop-word in
-    let s : List ℕ = c.args.s.now in
-    let all : length s / 4 ≡ l.word-index = omega (arith, c.as_chunks.ensures.front_len) in
-    c.crc_singly.ensures ∙ ap (crc_bytes l.r) (c.as_chunks.ensures.back ∙ ap (λ (n : ℕ). drop (n * 4) s) all) ∙ l.invariant
+    let all : length c.args.s.now / 4 ≡ c.loop-word.word-index = omega (arith, c.as_chunks.ensures.front_len) in
+    cc all

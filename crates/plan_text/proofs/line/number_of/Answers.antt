@@ -20,7 +20,7 @@ returns-then-not-is_ascii_digit c =
     let l = c.loop-b in
     let s = c.args.s.now in
     let some : 0 < length s = omega (arith, c.loop-b-test.true) in
-    refused-number s (digit-not s l.b-index c.loop-b-test.true (sym c.is_ascii_digit.ensures.value ∙ c.if-not-is_ascii_digit.true) ∙ l.invariant.2 ∙ number_digits s some c.if-s-gt18.false)
+    refused-number s (digit-not s l.b-index c.loop-b-test.true (sym c.is_ascii_digit.ensures.value ∙ c.if-not-is_ascii_digit.true) ∙ l.invariant.2 ∙ number_digits s some (omega (arith, c.if-s-gt18.false)))
 
 pub overflow_mul-v : goal.overflow_mul-v
 overflow_mul-v c = let l = c.loop-b in omega (arith, digits-small l.b-index l.v (omega (arith, c.loop-b-test.true, c.if-s-gt18.false)) l.invariant.0)
@@ -43,4 +43,4 @@ returns c =
     let l = c.loop-b in
     let s = c.args.s.now in
     let some : 0 < length s = grind (arith, nat_tests, c.if-is_empty.ensures) in
-    accepted-number s l.v (sym (digits-end s l.b-index c.loop-b-test.false) ∙ l.invariant.2 ∙ number_digits s some c.if-s-gt18.false) (sym (value-end s l.b-index l.v c.loop-b-test.false) ∙ l.invariant.1)
+    accepted-number s l.v (sym (digits-end s l.b-index c.loop-b-test.false) ∙ l.invariant.2 ∙ number_digits s some (omega (arith, c.if-s-gt18.false))) (sym (value-end s l.b-index l.v c.loop-b-test.false) ∙ l.invariant.1)

@@ -5,12 +5,12 @@ use mathlib.Core.List.{List, []}
 use Prim.Native.Nat.{ℕ, ◌-◌}
 use lib.ListN.{length}
 use Rattle.std.specs.Prelude.{Ok}
-use Rattle.codec.specs.Question.{Outcome, done}
+use Rattle.codec.specs.Question.{Outcome, done, refused, none}
 use Rattle.blocks.specs.Tree.{record_len}
 use Rattle.walks.specs.declared.visit.Count.{Count}
 use Rattle.walks.specs.Walk.{Visit, visit_of, Shape, Trace, visits, look_in}
 use Rattle.walks.specs.Shapes.{shape_of}
-use Rattle.walks.specs.WalkCall.{walk_in}
+use Rattle.walks.specs.WalkCall.{Report, walk_in}
 use Rattle.walks.specs.Links.{leftsib_of, rightsib_of}
 use Rattle.walks.specs.Path.{every, due_in, path_of, Opened}
 use Rattle.walks.specs.OneVisit.{verdict_outcome, step_outcome, BesideBy, step_of, Wrote}
@@ -91,14 +91,17 @@ loop-visits-init c =
       linked = rw (c.new-links.ensures.0, c.new-links.ensures.1) (chained-start (leftsib_of t.g.blocksize t.image.now) (rightsib_of t.g.blocksize t.image.now) a.levels _ _ c.requires.most (visits-whole w.0));
     }
 
+-- what was passed is the limit, whatever tells it
+told_as : (v p : ℕ) → v ≡ p → (r : Report) → record { outcome = refused 13 none; passed = v } ≡ r → record { outcome = refused 13 none; passed = p } ≡ r
+told_as v p n r k = rw n at k
+
 pub returns : goal.returns
 returns c =
     let a = c.args in
     let l = c.loop-visits in
-    let n : l.c.visits ≡ a.limit = omega arith in
     let k = walking-spent l.invariant.walks _ _ refl (omega arith) in
-    let e = rw n at k ∙ end_whole (record_len a.tree.now.kind) (walk_in (shape_of a.tree.now.g a.tree.now.kind) a.tree.now.image.now a.root a.levels a.limit a.places (length a.out.now)) in
-    record { walked_value = e; left = tt; linked_value = sym (refused-is (record_len a.tree.now.kind) _ _ _ _ _ _ _ false (sym e)) }
+    let e = k ∙ end_whole (record_len a.tree.now.kind) (walk_in (shape_of a.tree.now.g a.tree.now.kind) a.tree.now.image.now a.root a.levels a.limit a.places (length a.out.now)) in
+    record { walked_value = told_as l.c.visits _ (omega arith) _ e; left = tt; linked_value = sym (refused-is (record_len a.tree.now.kind) _ _ _ _ _ _ _ false (sym e)) }
 
 pub returns-in-Err : goal.returns-in-Err
 returns-in-Err c =
